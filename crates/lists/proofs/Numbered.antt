@@ -1,0 +1,66 @@
+-- Numbers in order, elements by number, and first ones are determined.
+use mathlib.Core.Path.{_≡_, refl, sym, ap, subst, _∙_}
+use mathlib.Core.List.{List, [], _∷_, _++_}
+use mathlib.Core.Logic.{_⊎_, inl, inr}
+use Prim.Native.Nat.{ℕ, zero, suc, _+_, _<_, _≤_}
+use native.Mathlib.Omega.{arith}
+use lib.ListN.{length, take}
+use Rattle.lists.specs.Places.{At, First}
+
+pub order : (m n : ℕ) → (m < n) ⊎ ((m ≡ n) ⊎ (n < m))
+order zero zero = inr (inl refl)
+order zero (suc n) = inl (omega arith)
+order (suc m) zero = inr (inr (omega arith))
+order (suc m) (suc n) = next (order m n)
+  where
+    next : (m < n) ⊎ ((m ≡ n) ⊎ (n < m)) → (suc m < suc n) ⊎ ((suc m ≡ suc n) ⊎ (suc n < suc m))
+    next (inl l) = inl (omega arith)
+    next (inr (inl e)) = inr (inl (ap suc e))
+    next (inr (inr l)) = inr (inr (omega arith))
+
+module _ {A : Type 0} where
+  pub at-same : (xs : List A) (i : ℕ) (x y : A) → At xs i x → At xs i y → x ≡ y
+  at-same [] i x y p q = absurd p
+  at-same (z ∷ zs) zero x y p q = sym p ∙ q
+  at-same (z ∷ zs) (suc i) x y p q = at-same zs i x y p q
+
+  pub at-below : (xs : List A) (i : ℕ) (x : A) → At xs i x → i < length xs
+  at-below [] i x p = absurd p
+  at-below (z ∷ zs) zero x p = omega arith
+  at-below (z ∷ zs) (suc i) x p = let h = at-below zs i x p in omega arith
+
+  pub at-left : (xs ys : List A) (i : ℕ) (x : A) → At xs i x → At (xs ++ ys) i x
+  at-left [] ys i x h = absurd h
+  at-left (z ∷ zs) ys zero x h = h
+  at-left (z ∷ zs) ys (suc i) x h = at-left zs ys i x h
+
+  -- what stands right behind xs, and what stands before it
+  pub at-next : (xs ys : List A) (x : A) → At (xs ++ (x ∷ ys)) (length xs) x
+  at-next [] ys x = refl
+  at-next (z ∷ zs) ys x = at-next zs ys x
+
+  pub take-front : (xs ys : List A) → take (length xs) (xs ++ ys) ≡ xs
+  take-front [] ys = refl
+  take-front (z ∷ zs) ys = ap (λ (k : List A). z ∷ k) (take-front zs ys)
+
+  -- an element of xs with y behind it is one of xs, or y
+  pub at-snoc : (xs : List A) (y : A) (i : ℕ) (x : A) → At (xs ++ (y ∷ [])) i x → At xs i x ⊎ ((i ≡ length xs) × (y ≡ x))
+  at-snoc [] y zero x h = inr (refl, h)
+  at-snoc [] y (suc i) x h = absurd h
+  at-snoc (z ∷ zs) y zero x h = inl h
+  at-snoc (z ∷ zs) y (suc i) x h = more (at-snoc zs y i x h)
+    where
+      more : At zs i x ⊎ ((i ≡ length zs) × (y ≡ x)) → At zs i x ⊎ ((suc i ≡ length (z ∷ zs)) × (y ≡ x))
+      more (inl a) = inl a
+      more (inr (e, f)) = inr (ap suc e, f)
+
+  pub first-number : (P : A → Type 0) (xs : List A) (k j : ℕ) (x y : A) → First P xs k x → First P xs j y → k ≡ j
+  first-number P xs k j x y a b = cases (order k j)
+    where
+      cases : (k < j) ⊎ ((k ≡ j) ⊎ (j < k)) → k ≡ j
+      cases (inl l) = absurd (b .earlier k x l (a .here) (a .does))
+      cases (inr (inl e)) = e
+      cases (inr (inr l)) = absurd (a .earlier j y l (b .here) (b .does))
+
+  pub first-single : (P : A → Type 0) (xs : List A) (k j : ℕ) (x y : A) → First P xs k x → First P xs j y → x ≡ y
+  first-single P xs k j x y a b = at-same xs j x y (subst (λ n. At xs n x) (first-number P xs k j x y a b) (a .here)) (b .here)

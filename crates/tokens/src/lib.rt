@@ -1,0 +1,2 @@
+// Bytes to tokens.
+pub mod token;

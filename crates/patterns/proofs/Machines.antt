@@ -98,7 +98,7 @@ Owed (after s as-read) ts m = Ended s as-read ts m
 Owed (after-fact a) ts m = (z : Token) × Is stop z × (ts ≡ z ∷ []) × (fact-line a ≡ m)
 Owed (done l) ts m = (ts ≡ []) × (l ≡ m)
 
-none : {A : Type 0} (x : A) → _≡_ {A = Option A} None (Some x) → ⊥
+pub none : {A : Type 0} (x : A) → _≡_ {A = Option A} None (Some x) → ⊥
 none x h = let z : _≡_ {A = ℕ} 0 1 = cc in omega arith
 
 -- an atom and what follows it are one more atom of the side
@@ -131,7 +131,7 @@ stopped : (a : List Token) (t : Token) → a ≡ [] → t ∷ a ≡ t ∷ []
 stopped a t e = ap (λ (x : List Token). t ∷ x) e
 
 -- by the kind of a token
-pick : {A : Type 0} (P : Kind → A → Type 0) (k : Kind) (w b a o c m s : A) → P word w → P bars b → P arrow a → P opens o → P closes c → P comma m → P stop s → P k (by-kind k w b a o c m s)
+pub pick : {A : Type 0} (P : Kind → A → Type 0) (k : Kind) (w b a o c m s : A) → P word w → P bars b → P arrow a → P opens o → P closes c → P comma m → P stop s → P k (by-kind k w b a o c m s)
 pick P word w b a o c m s p q r t u v x = p
 pick P bars w b a o c m s p q r t u v x = q
 pick P arrow w b a o c m s p q r t u v x = r
@@ -160,7 +160,7 @@ one t ts (after (head l b) a) m go = let d = after (head l b) a in let n = never
 one t ts (after-fact a) m go = let d = after-fact a in let n = never d t ts m in pick (Owes d t ts m) (t .kind) _ _ _ _ _ _ _ (n word) (n bars) (n arrow) (n opens) (n closes) (n comma) (λ q h. let (e, f) = go (done (fact-line a)) h in (t, q, stopped ts t e, f))
 one t ts (done l) m go = never (done l) t ts m (t .kind)
 
-some-same : {A : Type 0} (x y : A) → _≡_ {A = Option A} (Some x) (Some y) → x ≡ y
+pub some-same : {A : Type 0} (x y : A) → _≡_ {A = Option A} (Some x) (Some y) → x ≡ y
 some-same x y e = cc
 
 ended : (d : Draft) (m : Line) → _≡_ {A = Option Draft} (Some d) (Some (done m)) → Owed d [] m

@@ -86,11 +86,13 @@ abbrev pub sides : Line → List (List Written)
 sides (rule-line label body head) = body ∷ head ∷ []
 sides (fact-line atom) = (atom ∷ []) ∷ []
 
--- a word too many on these sides: the predicate of a fifth atom of a side or a later one, or a fifth word of an atom's brackets or a later one
-abbrev pub Extra : List (List Written) → Token → Type 0
-Extra xss w =
-    (n : ℕ) × (side : List Written) × (k : ℕ) × (a : Written) × At xss n side × At side k a
-    × (((4 ≤ k) × (a .predicate ≡ w)) ⊎ ((j : ℕ) × At (a .words) j w × (4 ≤ j)))
+-- w is one too many in the atom at number k of a side: the predicate of a fifth atom or a later one, or a fifth word in brackets or a later one
+abbrev pub Over : ℕ → Written → Token → Type 0
+Over k a w = ((4 ≤ k) × (a .predicate ≡ w)) ⊎ ((j : ℕ) × At (a .words) j w × (4 ≤ j))
 
+abbrev pub Extra : List (List Written) → Token → Type 0
+Extra xss w = (n : ℕ) × (side : List Written) × (k : ℕ) × (a : Written) × At xss n side × At side k a × Over k a w
+
+-- a word too many of a line
 abbrev pub TooMany : Line → Token → Type 0
 TooMany l w = Extra (sides l) w

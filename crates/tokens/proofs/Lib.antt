@@ -1,2 +1,4 @@
+pub mod Checking
+pub mod Reaching
 pub mod Steps
 pub mod Unique

@@ -8,7 +8,7 @@ use native.Mathlib.Omega.{arith}
 use lib.ListN.{length, getD}
 use lib.Dec.{eqb}
 use Rattle.lists.proofs.Numbered.{order}
-use Rattle.tokens.specs.Tokens.{wordByte, Byte, Run, Kind, Lies, Token, token-at, Between, Tokens, Nothing-at, Stray, Determined}
+use Rattle.tokens.specs.Tokens.{wordByte, Byte, Run, Kind, Lies, Token, Between, Tokens, Nothing-at, Stray, Determined}
 use Rattle.tokens.specs.Tokens.Kind.{word, bars, arrow, opens, closes, comma, stop}
 use Rattle.tokens.specs.Tokens.Between.{none, blank, token}
 

@@ -1,3 +1,4 @@
 pub mod Lexing
 pub mod Parts
+pub mod Reach
 pub mod Tokens

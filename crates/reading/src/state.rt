@@ -1,0 +1,26 @@
+// Where the reader of a pattern stands: what may come next, and in which atoms.
+
+#[derive(Clone, Copy, Debug, PartialEq, Eq)]
+pub enum Form {
+    Rule,
+    Fact,
+}
+
+#[derive(Clone, Copy, Debug, PartialEq, Eq)]
+pub enum Part {
+    Body,
+    Head,
+    Fact,
+}
+
+#[derive(Clone, Copy, Debug, PartialEq, Eq)]
+pub enum State {
+    Label,
+    Bars,
+    Name(Part),
+    Open(Part),
+    Word(Part),
+    More(Part),
+    After(Part),
+    Done,
+}

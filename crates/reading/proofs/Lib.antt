@@ -1,3 +1,4 @@
+pub mod Feeding
 pub mod Fronts
 pub mod Growing
 pub mod Keeping

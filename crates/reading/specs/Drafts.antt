@@ -14,7 +14,7 @@ use Rattle.questions.specs.declared.question.Refusal.{Refusal}
 use Rattle.questions.specs.declared.question.Question.the-variants.{Pattern}
 use Rattle.tokens.specs.Tokens as plain
 use Rattle.tokens.specs.Tokens.{Kind, token-at}
-use Rattle.tokens.specs.Lexing.{kind-of, Is}
+use Rattle.tokens.specs.Lexing.{kind-of, place-of, Is}
 use Rattle.tokens.specs.declared.token.Token.{Token}
 use Rattle.patterns.specs.Patterns.{Written, Line, Form, Extra}
 use Rattle.patterns.specs.Patterns.Line.{rule-line, fact-line}
@@ -181,6 +181,15 @@ Kept st w old new r = (s : List ℕ) (x : Parts) → Keeps s old x
 abbrev pub Noted : State → Span → Reader → Reader → Type 0
 Noted st w old new = (s : List ℕ) (x : Parts) (at : ℕ) → Held s (old .tables) (old .extra) x at → at ≤ w .place
     → Held s (new .tables) (new .extra) (grown st x (word-at s w)) (w .place)
+
+-- the state goes on, or the token cannot stand there; nothing else changes
+pub record Same (old new : Reader) : Type 0 where
+  pub tables : new .tables ≡ old .tables
+  pub extra : new .extra ≡ old .extra
+
+abbrev pub Advanced : Reader → Token → Reader → Result (Unit {0}) Refusal → Type 0
+Advanced old t new (Ok u) = go (old .state) (kind-of t) ≡ Some (new .state)
+Advanced old t new (Err x) = (go (old .state) (kind-of t) ≡ None) × (x .question ≡ Pattern) × (x .place ≡ place-of t)
 
 -- the token is taken, and the draft goes on; or it cannot stand there
 abbrev pub Fed : Reader → Token → Reader → Result (Unit {0}) Refusal → Type 0

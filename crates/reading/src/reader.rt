@@ -3,7 +3,7 @@ use crate::atom::Side;
 use crate::atom::Span;
 use crate::state::State;
 
-// mod feeding;
+mod feeding;
 mod keeping;
 
 // The words of a line in their tables.

@@ -47,7 +47,7 @@ impl Tables {
 
 impl Reader {
     // Keeps the word, or remembers the first that is one too many.
-    fn note(&mut self, state: State, word: Span)
+    pub fn note(&mut self, state: State, word: Span)
         ensures noted { λ _. ⌜ Noted state word (now (self .entry)) (now (self .exit)) ⌝ }
         ensures state { λ _. ⌜ now (self .exit) .state ≡ now (self .entry) .state ⌝ }
     {

@@ -1,4 +1,6 @@
 // Rule lines and fact lines, read exactly.
 pub mod atom;
+mod checks;
+pub mod line;
 mod reader;
 mod state;

@@ -2,5 +2,6 @@
 pub mod atom;
 mod checks;
 pub mod line;
+mod read;
 mod reader;
 mod state;

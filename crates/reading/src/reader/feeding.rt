@@ -4,6 +4,7 @@ ghost use mathlib.Core.List.{List};
 ghost use Prim.Native.Nat.{ℕ};
 ghost use Rattle.patterns.specs.Machine.{start};
 ghost use Rattle.reading.specs.Drafts.{form-of, Shows, Same, Advanced, Fed};
+ghost use Rattle.reading.specs.Lines.{Finished};
 use super::Reader;
 use super::Tables;
 use crate::atom::Side;
@@ -78,5 +79,21 @@ impl Reader {
             _ => {}
         }
         Ok(())
+    }
+    // What was kept, once the line of this length has come to its end.
+    pub fn finish(self, len: usize) -> Result<Tables, Refusal>
+        ensures { λ r. ⌜ Finished self len r ⌝ }
+    {
+        match (self.state, self.extra) {
+            (State::Done, None) => Ok(self.tables),
+            (State::Done, Some(place)) => Err(Refusal {
+                question: Question::Counts,
+                place,
+            }),
+            _ => Err(Refusal {
+                question: Question::Pattern,
+                place: len,
+            }),
+        }
     }
 }

@@ -33,7 +33,7 @@ use Rattle.reading.specs.declared.state.State.the-variants as state
 use Rattle.reading.specs.declared.atom.Span.{Span}
 use Rattle.reading.specs.declared.reader.Tables.{Tables}
 use Rattle.reading.specs.declared.reader.Reader.{Reader}
-use Rattle.reading.specs.Tables.{word-at, side-of}
+use Rattle.reading.specs.Tables.{word-at, side-of, SoundSide}
 
 abbrev pub form-of : code.Form → Form
 form-of form.Rule = of-rule
@@ -147,6 +147,8 @@ pub record Keeps (s : List ℕ) (tables : Tables) (x : Parts) : Type 0 where
   pub label : Labelled (x .label) (word-at s (tables .label))
   pub first : side-of s (tables .body) ≡ x .first
   pub second : side-of s (tables .head) ≡ x .second
+  pub body-sound : SoundSide (tables .body)
+  pub head-sound : SoundSide (tables .head)
 
 -- a word too many among the parts
 abbrev pub both : Parts → List (List Written)

@@ -2,9 +2,9 @@
 use mathlib.Core.Path.{_≡_}
 use mathlib.Core.List.{List}
 use mathlib.Core.Logic.{_⊎_}
-use Prim.Native.Nat.{ℕ, _+_, _<_, min}
-use lib.ListN.{length, take, drop}
-use denote.Ref.{RefT, ptr, now}
+use Prim.Native.Nat.{ℕ, _<_}
+use lib.ListN.{length}
+use denote.Ref.{RefT, now}
 use Rattle.std.specs.declared.option.Option.the-variants.{Some, None}
 use Rattle.std.specs.declared.result.Result.{Result}
 use Rattle.std.specs.declared.result.Result.the-variants.{Ok, Err}
@@ -19,7 +19,6 @@ use Rattle.patterns.specs.Patterns.Form.{of-rule, of-fact}
 use Rattle.patterns.specs.Asking.{Asked, question-of, Yes, No, Turned, Passes}
 use Rattle.patterns.specs.Asking.Asked.{pattern, counts}
 use Rattle.reading.specs.declared.state.State.the-variants as state
-use Rattle.reading.specs.declared.atom.Span.{Span}
 use Rattle.reading.specs.declared.reader.Tables.{Tables}
 use Rattle.reading.specs.declared.reader.Reader.{Reader}
 use Rattle.reading.specs.declared.line.RuleLine.{RuleLine}
@@ -82,9 +81,3 @@ ReadRule line (Err e) = Turned of-rule (now line) (e .question) (e .place)
 abbrev pub ReadFact : RefT (List ℕ) → Result FactLine Refusal → Type 0
 ReadFact line (Ok f) = (f .line ≡ line) × Passes of-fact (now line) × Writes of-fact (now line) (fact-of f)
 ReadFact line (Err e) = Turned of-fact (now line) (e .question) (e .place)
-
--- the text of a word: the line's own memory
-pub record Text (line part : RefT (List ℕ)) (w : Span) : Type 0 where
-  pub block : ptr part .0 ≡ ptr line .0
-  pub offset : ptr part .1 ≡ ptr line .1 + min (w .place) (length (now line))
-  pub holds : now part ≡ take (w .len) (drop (w .place) (now line))

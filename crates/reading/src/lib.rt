@@ -2,6 +2,6 @@
 pub mod atom;
 mod checks;
 pub mod line;
-mod read;
+pub mod read;
 mod reader;
 mod state;

@@ -2,10 +2,15 @@
 ghost use mathlib.Core.List.{List};
 ghost use Rattle.tokens.specs.Tokens.{Token as PlainToken, Tokens};
 ghost use Rattle.reading.specs.Drafts.{form-of};
-ghost use Rattle.reading.specs.Lines.{Patterned, Read};
+ghost use Rattle.patterns.specs.Patterns.Form.{of-rule, of-fact};
+ghost use Rattle.patterns.specs.Machine.{Machine-exact};
+ghost use Rattle.patterns.specs.Asking.{Line-determined};
+ghost use Rattle.reading.specs.Lines.{Patterned, Read, ReadRule, ReadFact};
 use crate::checks::check_bytes;
 use crate::checks::check_length;
 use crate::checks::check_words;
+use crate::line::FactLine;
+use crate::line::RuleLine;
 use crate::reader::Reader;
 use crate::reader::Tables;
 use crate::state::Form;
@@ -26,11 +31,37 @@ fn read_pattern(line: &[u8], form: Form) -> Result<Tables, Refusal>
 }
 
 // Each question is put to the whole line before the next one.
-pub fn read(line: &[u8], form: Form) -> Result<Tables, Refusal>
+fn read(line: &[u8], form: Form) -> Result<Tables, Refusal>
     ensures { λ r. ⌜ Read (form-of form) (now (line .entry)) r ⌝ }
 {
     check_length(line)?;
     check_bytes(line)?;
     check_words(line)?;
     read_pattern(line, form)
+}
+
+// A rule line, `label||| body -> head.`, with its words by their places.
+pub fn read_rule<'a>(line: &'a [u8]) -> Result<RuleLine<'a>, Refusal>
+    ensures read { λ r. ⌜ ReadRule (line .entry) r ⌝ }
+    ensures determined { λ _. ⌜ Line-determined of-rule (now (line .entry)) ⌝ }
+    ensures machine { λ _. ⌜ Machine-exact of-rule ⌝ }
+{
+    let tables = read(line, Form::Rule)?;
+    Ok(RuleLine {
+        line,
+        label: tables.label,
+        body: tables.body,
+        head: tables.head,
+    })
+}
+
+// A fact line, one atom and a full stop, with its words by their places. Whether these are numbers is asked later.
+pub fn read_fact<'a>(line: &'a [u8]) -> Result<FactLine<'a>, Refusal>
+    ensures read { λ r. ⌜ ReadFact (line .entry) r ⌝ }
+    ensures determined { λ _. ⌜ Line-determined of-fact (now (line .entry)) ⌝ }
+    ensures machine { λ _. ⌜ Machine-exact of-fact ⌝ }
+{
+    let tables = read(line, Form::Fact)?;
+    let atom = tables.body.atoms()[0];
+    Ok(FactLine { line, atom })
 }

@@ -9,9 +9,9 @@ mod keeping;
 // The words of a line in their tables.
 #[derive(Clone, Copy)]
 pub struct Tables {
-    label: Span,
-    body: Side,
-    head: Side,
+    pub label: Span,
+    pub body: Side,
+    pub head: Side,
 }
 
 #[derive(Clone, Copy)]

@@ -2,15 +2,28 @@
 ghost use mathlib.Core.Path.{_≡_};
 ghost use mathlib.Core.List.{[]};
 ghost use Prim.Native.Nat.{ℕ};
-ghost use Rattle.reading.specs.Tables.{spans, atoms-of, Pushed, Begun, Added};
+ghost use lib.ListN.{length};
+ghost use Rattle.reading.specs.Tables.{spans, atoms-of, Text, SoundSide, Pushed, Begun, Added};
 use super::Atom;
 use super::Side;
 use super::Span;
+
+impl Span {
+    // The word's bytes: the line's own memory, cut off at the line's end.
+    pub fn text<'a>(self, line: &'a [u8]) -> &'a [u8]
+        ensures { λ r. ⌜ Text (line .entry) r self ⌝ }
+    {
+        let from = self.place.min(line.len());
+        let to = from + self.len.min(line.len() - from);
+        &line[from..to]
+    }
+}
 
 impl Atom {
     fn new(predicate: Span) -> Atom
         ensures predicate { λ r. ⌜ r .predicate ≡ predicate ⌝ }
         ensures empty { λ r. ⌜ r .count ≡ 0 ⌝ }
+        ensures wide { λ r. ⌜ length (r .words) ≡ 4 ⌝ }
     {
         Atom {
             predicate,
@@ -29,7 +42,8 @@ impl Atom {
     pub fn words(&self) -> &[Span]
         ensures { λ r. ⌜ now r ≡ spans (now (self .entry)) ⌝ }
     {
-        &self.words[0..self.count]
+        let n = self.count.min(4);
+        &self.words[0..n]
     }
 
     // One word more, unless there are four.
@@ -49,7 +63,8 @@ impl Atom {
 impl Side {
     // No atom yet; the word only fills the table.
     pub fn new(filler: Span) -> Side
-        ensures { λ r. ⌜ atoms-of r ≡ [] ⌝ }
+        ensures empty { λ r. ⌜ atoms-of r ≡ [] ⌝ }
+        ensures sound { λ r. ⌜ SoundSide r ⌝ }
     {
         Side {
             atoms: [Atom::new(filler); 4],
@@ -60,7 +75,8 @@ impl Side {
     pub fn atoms(&self) -> &[Atom]
         ensures { λ r. ⌜ now r ≡ atoms-of (now (self .entry)) ⌝ }
     {
-        &self.atoms[0..self.count]
+        let n = self.count.min(4);
+        &self.atoms[0..n]
     }
 
     // One atom more, unless there are four.
@@ -80,7 +96,7 @@ impl Side {
     pub fn add(&mut self, word: Span) -> bool
         ensures { λ r. ⌜ Added (now (self .entry)) word (now (self .exit)) r ⌝ }
     {
-        if self.count == 0 {
+        if self.count == 0 || self.count > 4 {
             return true;
         }
         let last = self.count - 1;

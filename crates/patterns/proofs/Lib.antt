@@ -1,3 +1,7 @@
+pub mod Feeding
+pub mod Fronts
+pub mod Growing
+pub mod Keeping
 pub mod Machines
 pub mod Parting
 pub mod Shapes

@@ -1,1 +1,4 @@
-// The patterns of lines and the questions that are put to a line. No code: specs/ and proofs/ are what it has.
+// The patterns of rule lines and fact lines, and the reader that follows them.
+pub mod atom;
+pub mod reader;
+pub mod state;

@@ -29,13 +29,13 @@ use Rattle.patterns.proofs.Machines as machines
 use Rattle.patterns.proofs.Machines.{run-follows, follows-run, run-completes, completes-run, run-snoc, run-stuck, some-same}
 use Rattle.patterns.specs.Asking.{Yes, No}
 use Rattle.patterns.specs.Asking.Asked.{pattern, counts}
-use Rattle.reading.specs.declared.state.State.{State}
-use Rattle.reading.specs.declared.state.State.the-variants as state
-use Rattle.reading.specs.declared.reader.Tables.{Tables}
-use Rattle.reading.specs.declared.reader.Reader.{Reader}
-use Rattle.reading.specs.Drafts.{state-of, line-parts, parts, Keeps, ExtraIn, FirstExtra, Held, Shows, Fed}
-use Rattle.reading.specs.Lines.{Finished, Spells, Patterned}
-use Rattle.reading.proofs.Keeping.{keeps-few}
+use Rattle.patterns.specs.declared.state.State.{State}
+use Rattle.patterns.specs.declared.state.State.the-variants as state
+use Rattle.patterns.specs.declared.reader.Tables.{Tables}
+use Rattle.patterns.specs.declared.reader.Reader.{Reader}
+use Rattle.patterns.specs.Drafts.{state-of, line-parts, parts, Keeps, ExtraIn, FirstExtra, Held, Shows, Fed, Finished}
+use Rattle.reading.specs.Lines.{Spells, Patterned}
+use Rattle.patterns.proofs.Keeping.{keeps-few}
 
 -- the reader stands for what lies before the place at
 abbrev pub Along : Form → List ℕ → Reader → ℕ → Type 0

@@ -14,9 +14,9 @@ use Rattle.patterns.specs.Patterns.Line.{rule-line, fact-line}
 use Rattle.patterns.specs.Patterns.Form.{of-rule, of-fact}
 use Rattle.patterns.specs.Asking.{Yes, Turned}
 use Rattle.patterns.specs.Asking.Asked.{line-length, bytes, word-length}
-use Rattle.reading.specs.declared.reader.Tables.{Tables}
-use Rattle.reading.specs.declared.atom.Atom.{Atom}
-use Rattle.reading.specs.Tables.{atoms-of, word-at, written, side-of}
+use Rattle.patterns.specs.declared.reader.Tables.{Tables}
+use Rattle.patterns.specs.declared.atom.Atom.{Atom}
+use Rattle.patterns.specs.Tables.{atoms-of, word-at, written, side-of}
 use Rattle.reading.specs.Lines.{Answers, Spells, Patterned, Read}
 
 pub turned-length : (form : Form) (s : List ℕ) (e : Refusal) → Answers form s line-length (Err e) → Turned form s (e .question) (e .place)

@@ -1,3 +1,1 @@
-pub mod Drafts
 pub mod Lines
-pub mod Tables

@@ -5,7 +5,6 @@ use mathlib.Core.Logic.{_⊎_}
 use Prim.Native.Nat.{ℕ, _<_}
 use lib.ListN.{length}
 use denote.Ref.{RefT, now}
-use Rattle.std.specs.declared.option.Option.the-variants.{Some, None}
 use Rattle.std.specs.declared.result.Result.{Result}
 use Rattle.std.specs.declared.result.Result.the-variants.{Ok, Err}
 use Rattle.questions.specs.declared.question.Refusal.{Refusal}
@@ -18,13 +17,11 @@ use Rattle.patterns.specs.Patterns.Line.{rule-line, fact-line}
 use Rattle.patterns.specs.Patterns.Form.{of-rule, of-fact}
 use Rattle.patterns.specs.Asking.{Asked, question-of, Yes, No, Turned, Passes}
 use Rattle.patterns.specs.Asking.Asked.{pattern, counts}
-use Rattle.reading.specs.declared.state.State.the-variants as state
-use Rattle.reading.specs.declared.reader.Tables.{Tables}
-use Rattle.reading.specs.declared.reader.Reader.{Reader}
+use Rattle.patterns.specs.declared.reader.Tables.{Tables}
 use Rattle.reading.specs.declared.line.RuleLine.{RuleLine}
 use Rattle.reading.specs.declared.line.FactLine.{FactLine}
-use Rattle.reading.specs.Tables.{word-at, written, side-of}
-use Rattle.reading.specs.Drafts.{Keeps, line-parts}
+use Rattle.patterns.specs.Tables.{word-at, written, side-of}
+use Rattle.patterns.specs.Drafts.{Keeps, line-parts}
 
 -- one question is put: yes, or no at the refusal's place
 abbrev pub Answers : Form → List ℕ → Asked → Result (Unit {0}) Refusal → Type 0
@@ -44,13 +41,6 @@ Long (Stop p) = ⊥
 abbrev pub Judged : Token → Result (Unit {0}) Refusal → Type 0
 Judged t (Ok u) = Long t → ⊥
 Judged t (Err e) = Long t × (e .question ≡ WordLength) × (e .place ≡ place-of t)
-
--- the reader is done and hands out its tables; or the line of this length ended early, or a word is too many
-abbrev pub Finished : Reader → ℕ → Result Tables Refusal → Type 0
-Finished r len (Ok t) = (r .state ≡ state.Done) × (r .extra ≡ None) × (t ≡ r .tables)
-Finished r len (Err e) =
-    ((r .state ≡ state.Done → ⊥) × (e .question ≡ Pattern) × (e .place ≡ len))
-    ⊎ ((r .state ≡ state.Done) × (r .extra ≡ Some (e .place)) × (e .question ≡ Counts))
 
 -- the tables hold what the line writes, and nothing in it is too many
 abbrev pub Spells : Form → List ℕ → Tables → Type 0

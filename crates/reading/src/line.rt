@@ -1,7 +1,7 @@
 // Lines that passed all their questions. A word is told by its place; its text is a part of the line.
-use crate::atom::Atom;
-use crate::atom::Side;
-use crate::atom::Span;
+use patterns::atom::Atom;
+use patterns::atom::Side;
+use patterns::atom::Span;
 
 // A rule line: `label||| body -> head.`
 #[derive(Clone, Copy)]

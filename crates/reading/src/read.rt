@@ -1,7 +1,7 @@
 // Reading a line: its questions in their order, and what it writes.
 ghost use mathlib.Core.List.{List};
 ghost use Rattle.tokens.specs.Tokens.{Token as PlainToken, Tokens};
-ghost use Rattle.reading.specs.Drafts.{form-of};
+ghost use Rattle.patterns.specs.Drafts.{form-of};
 ghost use Rattle.patterns.specs.Patterns.Form.{of-rule, of-fact};
 ghost use Rattle.patterns.specs.Machine.{Machine-exact};
 ghost use Rattle.patterns.specs.Asking.{Line-determined};
@@ -11,9 +11,9 @@ use crate::checks::check_length;
 use crate::checks::check_words;
 use crate::line::FactLine;
 use crate::line::RuleLine;
-use crate::reader::Reader;
-use crate::reader::Tables;
-use crate::state::Form;
+use patterns::reader::Reader;
+use patterns::reader::Tables;
+use patterns::state::Form;
 use questions::question::Refusal;
 use tokens::lexer::Lexer;
 

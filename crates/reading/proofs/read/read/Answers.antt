@@ -1,6 +1,6 @@
 use mathlib.Core.Logic.{inl, inr}
 use Rattle.std.proofs.shelf.Results.{err-from-errBy}
-use Rattle.reading.specs.Drafts.{form-of}
+use Rattle.patterns.specs.Drafts.{form-of}
 use Rattle.reading.proofs.Ordering.{turned-length, turned-bytes, turned-words, whole-read}
 use Rattle.reading.proofs.read.read.Needs as need
 

@@ -3,7 +3,7 @@ use mathlib.Core.Logic.{inl, inr}
 use Prim.Native.Nat.{ℕ}
 use denote.Ref.{now}
 use Rattle.std.proofs.shelf.Results.{err-from-errBy}
-use Rattle.reading.specs.Drafts.{form-of}
+use Rattle.patterns.specs.Drafts.{form-of}
 use Rattle.reading.proofs.Completing.{Along, along-start, along-more, along-stray, along-stuck, along-end}
 use Rattle.reading.proofs.read.read_pattern.Needs as need
 

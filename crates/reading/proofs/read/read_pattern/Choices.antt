@@ -5,7 +5,7 @@ use lib.ListN.{length}
 use denote.Ref.{now}
 use Rattle.patterns.specs.Patterns.{Form}
 use Rattle.patterns.specs.Machine.{start}
-use Rattle.reading.specs.Drafts.{Shows}
+use Rattle.patterns.specs.Drafts.{Shows}
 use Rattle.reading.proofs.Completing.{Along}
 use Rattle.reading.proofs.read.read_pattern.Given as given
 

@@ -1,0 +1,9 @@
+use borrow.Author.Needs.{needs}
+use mathlib.Core.Path.{_≡_}
+use native.Mathlib.Omega.{arith}
+use lib.ListN.{length}
+use Rattle.patterns.proofs.Fronts.{clipped}
+use Rattle.patterns.proofs.atom.Side.atoms.Needs as need
+
+pub returns : need.returns
+returns c = let h : length (c .args .self .now .atoms) ≡ 4 = search needs in clipped (c .args .self .now .atoms) (c .args .self .now .count) 4 _ h (omega arith)

@@ -29,7 +29,7 @@ use Rattle.patterns.specs.Drafts.{Parts, push-word, grown, both, Keeps, ExtraI
 use Rattle.patterns.proofs.Fronts.{full}
 use Rattle.patterns.proofs.Growing.{push-last, name-extra, word-extra, extra-stays, extra-back}
 
-map-snoc : {A B : Type 0} (f : A → B) (xs : List A) (x : A) → map f (xs ++ (x ∷ [])) ≡ map f xs ++ (f x ∷ [])
+pub map-snoc : {A B : Type 0} (f : A → B) (xs : List A) (x : A) → map f (xs ++ (x ∷ [])) ≡ map f xs ++ (f x ∷ [])
 map-snoc f [] x = refl
 map-snoc f (y ∷ ys) x = ap (λ (k : List _). f y ∷ k) (map-snoc f ys x)
 

@@ -48,9 +48,12 @@ pub record Decimal (text : List ℕ) (n : ℕ) : Type 0 where
   pub digits : (i d : ℕ) → At text i d → Digit d
   pub value : worth 0 text ≡ n
 
--- the bytes are a decimal number up to 32,767
+-- the bytes are the number n, and it is at most 32,767
+abbrev pub Number : List ℕ → ℕ → Type 0
+Number text n = Decimal text n × (n ≤ 32767)
+
 abbrev pub GoodNumber : List ℕ → Type 0
-GoodNumber text = (n : ℕ) × Decimal text n × (n ≤ 32767)
+GoodNumber text = (n : ℕ) × Number text n
 
 -- the question on the line s of this form answers yes
 abbrev pub Yes : Form → List ℕ → Asked → Type 0

@@ -2,3 +2,4 @@
 mod checks;
 pub mod line;
 pub mod read;
+pub mod values;

@@ -1,7 +1,7 @@
 // Reading and filling the tables.
 ghost use mathlib.Core.Path.{_≡_};
 ghost use mathlib.Core.List.{[]};
-ghost use Prim.Native.Nat.{ℕ};
+ghost use Prim.Native.Nat.{ℕ, _≤_};
 ghost use lib.ListN.{length};
 ghost use Rattle.patterns.specs.Tables.{spans, atoms-of, Text, SoundSide, Pushed, Begun, Added};
 use super::Atom;
@@ -40,7 +40,8 @@ impl Atom {
 
     // The words in its brackets.
     pub fn words(&self) -> &[Span]
-        ensures { λ r. ⌜ now r ≡ spans (now (self .entry)) ⌝ }
+        ensures words { λ r. ⌜ now r ≡ spans (now (self .entry)) ⌝ }
+        ensures few { λ r. ⌜ length (now r) ≤ 4 ⌝ }
     {
         let n = self.count.min(4);
         &self.words[0..n]
@@ -73,7 +74,8 @@ impl Side {
     }
 
     pub fn atoms(&self) -> &[Atom]
-        ensures { λ r. ⌜ now r ≡ atoms-of (now (self .entry)) ⌝ }
+        ensures atoms { λ r. ⌜ now r ≡ atoms-of (now (self .entry)) ⌝ }
+        ensures few { λ r. ⌜ length (now r) ≤ 4 ⌝ }
     {
         let n = self.count.min(4);
         &self.atoms[0..n]

@@ -14,4 +14,4 @@ returns-in-Break-tables c =
 pub returns : need.returns
 returns c =
     let (passes, spells) = c .in-Continue-tables .ensures tt in
-    record { read = (refl, passes, fact-written _ _ _ _ (c .atoms .ensures) spells); determined = line-determined of-fact _; machine = machine-exact of-fact }
+    record { read = (refl, passes, fact-written _ _ _ _ (c .atoms .ensures .atoms) spells); determined = line-determined of-fact _; machine = machine-exact of-fact }

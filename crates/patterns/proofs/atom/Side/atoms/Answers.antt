@@ -6,4 +6,4 @@ use Rattle.patterns.proofs.Fronts.{clipped}
 use Rattle.patterns.proofs.atom.Side.atoms.Needs as need
 
 pub returns : need.returns
-returns c = let h : length (c .args .self .now .atoms) ≡ 4 = search needs in clipped (c .args .self .now .atoms) (c .args .self .now .count) 4 _ h (omega arith)
+returns c = let h : length (c .args .self .now .atoms) ≡ 4 = search needs in record { atoms = clipped (c .args .self .now .atoms) (c .args .self .now .count) 4 _ h (omega arith); few = search needs }

@@ -1,0 +1,46 @@
+-- An input cut into lines, and what handing out one of them promises.
+use mathlib.Core.Path.{_≡_}
+use mathlib.Core.List.{List, [], _∷_, _++_}
+use Prim.Native.Nat.{ℕ, _+_, _<_, _≤_}
+use lib.ListN.{length, getD, take, drop}
+use denote.Ref.{RefT, ptr, now}
+use Rattle.std.specs.declared.option.Option.{Option}
+use Rattle.std.specs.declared.option.Option.the-variants.{Some, None}
+use Rattle.lists.specs.Places.{At}
+use Rattle.lines.specs.declared.line.NumberedLine.{NumberedLine}
+
+-- no byte is a newline
+abbrev pub NoNewline : List ℕ → Type 0
+NoNewline l = (i : ℕ) → At l i 10 → ⊥
+
+-- the input s is these lines, in order
+pub data Cut : List ℕ → List (List ℕ) → Type 0 where
+  empty : {s : List ℕ} → s ≡ [] → Cut s []
+  last : {s : List ℕ} → 0 < length s → NoNewline s → Cut s (s ∷ [])
+  line : {s : List ℕ} {ls : List (List ℕ)} (l rest : List ℕ) → NoNewline l → s ≡ l ++ (10 ∷ rest) → Cut rest ls → Cut s (l ∷ ls)
+
+-- an input has one list of lines
+abbrev pub Cut-determined : List ℕ → Type 0
+Cut-determined s = (xs ys : List (List ℕ)) → Cut s xs → Cut s ys → xs ≡ ys
+
+-- the first newline from the place i on is at e, or there is none and e is the input's end
+pub record Ends (s : List ℕ) (i e : ℕ) : Type 0 where
+  pub from : i ≤ e
+  pub within : e ≤ length s
+  pub before : (k : ℕ) → i ≤ k → k < e → getD s k 0 ≡ 10 → ⊥
+  pub stops : e < length s → getD s e 0 ≡ 10
+
+-- line is the text's own memory from the place at on; it, followed by the lines of what is left at next, are the lines of what was left at at
+pub record Handed (text line : RefT (List ℕ)) (at next : ℕ) : Type 0 where
+  pub block : ptr line .0 ≡ ptr text .0
+  pub offset : ptr line .1 ≡ ptr text .1 + at
+  pub holds : now line ≡ take (length (now line)) (drop at (now text))
+  pub behind : at + length (now line) ≤ next
+  pub onwards : at < next
+  pub within : next ≤ length (now text)
+  pub lines : (rest : List (List ℕ)) → Cut (drop next (now text)) rest → Cut (drop at (now text)) (now line ∷ rest)
+
+-- with n lines handed out and the rest of the text at the place at comes r, and then m lines are handed out and the rest is at next
+abbrev pub Next : RefT (List ℕ) → ℕ → ℕ → ℕ → ℕ → Option NumberedLine → Type 0
+Next text at n next m None = Cut (drop at (now text)) [] × (next ≡ at) × (m ≡ n)
+Next text at n next m (Some x) = (x .number ≡ n + 1) × (m ≡ n + 1) × Handed text (x .text) at next

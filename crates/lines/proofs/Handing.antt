@@ -2,22 +2,17 @@
 use mathlib.Core.Path.{_≡_, refl, sym, ap, subst, _∙_}
 use mathlib.Core.List.{List, [], _∷_, _++_}
 use mathlib.Core.Logic.{⊎-elim}
-use Prim.Native.Nat.{ℕ, zero, suc, _+_, _-_, _<_, _≤_, min}
+use Prim.Native.Nat.{ℕ, _+_, _-_, _<_, _≤_, min}
 use native.Mathlib.Omega.{arith}
 use lib.ListN.{length, getD, take, drop, length-drop, length-take, take-append-drop}
 use lib.Seq.{drop-drop}
 use Rattle.std.proofs.shelf.Lists.{drop-all, drop-more, take-all, getD-take, getD-drop}
 use Rattle.std.proofs.shelf.Tests.{cases-lt}
 use Rattle.lists.specs.Places.{At}
-use Rattle.lists.proofs.Numbered.{at-below}
+use Rattle.lists.proofs.Numbered.{at-below, at-get}
 use Rattle.lines.specs.Cutting.{NoNewline, Cut, Ends}
 use Rattle.lines.specs.Cutting.Cut.{empty, last, line}
 use Rattle.lines.proofs.Unique.{determined}
-
-at-get : (xs : List ℕ) (i x : ℕ) → At xs i x → getD xs i 0 ≡ x
-at-get [] i x h = absurd h
-at-get (y ∷ xs) zero x h = h
-at-get (y ∷ xs) (suc i) x h = at-get xs i x h
 
 pub nothing-left : (s : List ℕ) (i : ℕ) → length s ≤ i → Cut (drop i s) []
 nothing-left s i h = empty (drop-all i s h)
@@ -25,7 +20,7 @@ nothing-left s i h = empty (drop-all i s h)
 no-newline : (s : List ℕ) (i e : ℕ) → Ends s i e → NoNewline (take (e - i) (drop i s))
 no-newline s i e x k h =
     let below : k < e - i = omega (arith, simp length-take at (at-below (take (e - i) (drop i s)) k 10 h)) in
-    x .before (i + k) (omega arith) (omega arith) (sym (getD-drop i s k 0) ∙ sym (getD-take (e - i) (drop i s) k 0 below) ∙ at-get _ k 10 h)
+    x .before (i + k) (omega arith) (omega arith) (sym (getD-drop i s k 0) ∙ sym (getD-take (e - i) (drop i s) k 0 below) ∙ at-get _ k 10 0 h)
 
 -- the bytes up to the newline, the newline, and the rest
 parted : (s : List ℕ) (i e : ℕ) → Ends s i e → e < length s → drop i s ≡ take (e - i) (drop i s) ++ (10 ∷ drop (e + 1) s)

@@ -2,10 +2,11 @@
 use mathlib.Core.Path.{_≡_}
 use mathlib.Core.List.{List, [], _∷_, _++_}
 use Prim.Native.Nat.{ℕ, _+_, _<_, _≤_}
-use lib.ListN.{length, getD, take, drop}
-use denote.Ref.{RefT, ptr, now}
+use lib.ListN.{length, getD, drop}
+use denote.Ref.{RefT, now}
 use Rattle.std.specs.declared.option.Option.{Option}
 use Rattle.std.specs.declared.option.Option.the-variants.{Some, None}
+use Rattle.lists.specs.Parts.{Part}
 use Rattle.lists.specs.Places.{At}
 use Rattle.lines.specs.declared.line.NumberedLine.{NumberedLine}
 
@@ -32,9 +33,7 @@ pub record Ends (s : List ℕ) (i e : ℕ) : Type 0 where
 
 -- line is the text's own memory from the place at on; it, followed by the lines of what is left at next, are the lines of what was left at at
 pub record Handed (text line : RefT (List ℕ)) (at next : ℕ) : Type 0 where
-  pub block : ptr line .0 ≡ ptr text .0
-  pub offset : ptr line .1 ≡ ptr text .1 + at
-  pub holds : now line ≡ take (length (now line)) (drop at (now text))
+  pub memory : Part text line at (length (now line))
   pub behind : at + length (now line) ≤ next
   pub onwards : at < next
   pub within : next ≤ length (now text)

@@ -3,12 +3,23 @@ ghost use mathlib.Core.Path.{_≡_};
 ghost use Prim.Native.Nat.{_≤_};
 ghost use lib.ListN.{length};
 ghost use denote.Ref.{now};
-ghost use Rattle.lines.specs.Cutting.{Cut-determined, Next};
-use crate::ends::line_end;
+ghost use Rattle.lines.specs.Cutting.{Cut-determined, Ends, Next};
 pub use crate::line::NumberedLine;
 
-mod ends;
 mod line;
+
+// The place of the first newline from `from` on, or the text's end.
+fn line_end(text: &[u8], from: usize) -> usize
+    requires { ⌜ from ≤ length (now text) ⌝ }
+    ensures { λ r. ⌜ Ends (now (text .entry)) from r ⌝ }
+{
+    for i in from..text.len() {
+        if text[i] == b'\n' {
+            return i;
+        }
+    }
+    text.len()
+}
 
 // A text, the place up to which it has been cut, and how many lines were handed out. A line takes a byte or more of the text, so their number does not overflow.
 #[derive(Drop)]

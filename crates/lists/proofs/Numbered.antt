@@ -4,7 +4,7 @@ use mathlib.Core.List.{List, [], _∷_, _++_}
 use mathlib.Core.Logic.{_⊎_, inl, inr}
 use Prim.Native.Nat.{ℕ, zero, suc, _+_, _<_, _≤_}
 use native.Mathlib.Omega.{arith}
-use lib.ListN.{length, take}
+use lib.ListN.{length, take, getD}
 use Rattle.lists.specs.Places.{At, First}
 
 pub order : (m n : ℕ) → (m < n) ⊎ ((m ≡ n) ⊎ (n < m))
@@ -33,6 +33,22 @@ module _ {A : Type 0} where
   at-left [] ys i x h = absurd h
   at-left (z ∷ zs) ys zero x h = h
   at-left (z ∷ zs) ys (suc i) x h = at-left zs ys i x h
+
+  pub at-front : (xs ys : List A) (i : ℕ) (x : A) → i < length xs → At (xs ++ ys) i x → At xs i x
+  at-front [] ys i x l h = absurd (omega arith)
+  at-front (z ∷ zs) ys zero x l h = h
+  at-front (z ∷ zs) ys (suc i) x l h = at-front zs ys i x (omega arith) h
+
+  -- the element at a number, and `getD`
+  pub at-get : (xs : List A) (i : ℕ) (x d : A) → At xs i x → getD xs i d ≡ x
+  at-get [] i x d h = absurd h
+  at-get (z ∷ zs) zero x d h = h
+  at-get (z ∷ zs) (suc i) x d h = at-get zs i x d h
+
+  pub get-at : (xs : List A) (i : ℕ) (d : A) → i < length xs → At xs i (getD xs i d)
+  get-at [] i d l = absurd (omega arith)
+  get-at (z ∷ zs) zero d l = refl
+  get-at (z ∷ zs) (suc i) d l = get-at zs i d (omega arith)
 
   -- what stands right behind xs, and what stands before it
   pub at-next : (xs ys : List A) (x : A) → At (xs ++ (x ∷ ys)) (length xs) x

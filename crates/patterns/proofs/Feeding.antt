@@ -126,7 +126,7 @@ fed-word old mid new text p adv same noted st line d at a e sh l is =
     let place : p ≡ a = is .place in
     let more = noted s (parts d) at held (omega arith) in
     let grown-as : grown (old .state) (parts d) (word-at s w) ≡ parts f =
-      ap (λ (x : State). grown x (parts d) (word-at s w)) (sh .state) ∙ ap (grown (state-of d) (parts d)) (spanned s w a e place (is .borrows .long)) ∙ sym (grew d t word f m) in
+    ap (λ (x : State). grown x (parts d) (word-at s w)) (sh .state) ∙ ap (grown (state-of d) (parts d)) (spanned s w a e place (is .borrows .long)) ∙ sym (grew d t word f m) in
     let e-after = lies-longer s a e word (is .lies) in
     (f, m, record { state = st ∙ u; held = later s (new .tables) (new .extra) (parts f) p e (subst (λ x. Held s (new .tables) (new .extra) x p) grown-as more) (omega arith) })
 

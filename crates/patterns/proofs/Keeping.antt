@@ -26,12 +26,9 @@ use Rattle.patterns.specs.declared.state.State.{State}
 use Rattle.patterns.specs.declared.state.State.the-variants as state
 use Rattle.patterns.specs.Tables.{spans, atoms-of, word-at, written, side-of, SoundAtom, SoundSide, Pushed, Begun, AddedLast, Added}
 use Rattle.patterns.specs.Drafts.{Parts, push-word, grown, both, Keeps, ExtraIn, FirstExtra, Held, Kept}
-use Rattle.patterns.proofs.Fronts.{full}
+use Rattle.lists.proofs.Fronts.{full}
+use Rattle.lists.proofs.Mapped.{map-snoc, at-map}
 use Rattle.patterns.proofs.Growing.{push-last, name-extra, word-extra, extra-stays, extra-back}
-
-pub map-snoc : {A B : Type 0} (f : A → B) (xs : List A) (x : A) → map f (xs ++ (x ∷ [])) ≡ map f xs ++ (f x ∷ [])
-map-snoc f [] x = refl
-map-snoc f (y ∷ ys) x = ap (λ (k : List _). f y ∷ k) (map-snoc f ys x)
 
 not-head : (_≡_ {A = Part} Head Body) ⊎ (_≡_ {A = Part} Head Fact) → ⊥
 not-head (inl e) = let z : _≡_ {A = ℕ} 0 1 = cc in omega arith
@@ -145,11 +142,6 @@ rest-kept (state.After p) w old a b c s x k = k
 rest-kept state.Done w old a b c s x k = k
 
 -- ---- what the tables hold is not too many
-
-at-map : {A B : Type 0} (f : A → B) (xs : List A) (k : ℕ) (y : B) → At (map f xs) k y → (x : A) × At xs k x × (f x ≡ y)
-at-map f [] k y h = absurd h
-at-map f (x ∷ xs) zero y h = (x, refl, h)
-at-map f (x ∷ xs) (suc k) y h = at-map f xs k y h
 
 short : {A : Type 0} (n : ℕ) (xs : List A) → n ≤ 4 → length (take n xs) ≤ 4
 short n xs h = let e = length-take n xs in let m = min-le n (length xs) in omega arith

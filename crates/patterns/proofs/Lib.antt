@@ -1,5 +1,4 @@
 pub mod Feeding
-pub mod Fronts
 pub mod Growing
 pub mod Keeping
 pub mod Machines

@@ -3,9 +3,10 @@ use mathlib.Core.Path.{_≡_}
 use mathlib.Core.Bool.{Bool, true, false}
 use mathlib.Core.List.{List, [], _∷_, _++_, map}
 use mathlib.Core.Logic.{_⊎_}
-use Prim.Native.Nat.{ℕ, _+_, min, _<_, _≤_}
+use Prim.Native.Nat.{ℕ, min, _<_, _≤_}
 use lib.ListN.{length, take, drop}
-use denote.Ref.{RefT, ptr, now}
+use denote.Ref.{RefT, now}
+use Rattle.lists.specs.Parts.{Part}
 use Rattle.lists.specs.Places.{At}
 use Rattle.tokens.specs.Tokens.{Token}
 use Rattle.tokens.specs.Tokens.Kind.{word}
@@ -32,10 +33,9 @@ abbrev pub side-of : List ℕ → Side → List Written
 side-of s d = map (written s) (atoms-of d)
 
 -- the text of a word: the line's own memory, cut off at the line's end
-pub record Text (line part : RefT (List ℕ)) (w : Span) : Type 0 where
-  pub block : ptr part .0 ≡ ptr line .0
-  pub offset : ptr part .1 ≡ ptr line .1 + min (w .place) (length (now line))
-  pub holds : now part ≡ take (w .len) (drop (w .place) (now line))
+pub record Text (line text : RefT (List ℕ)) (w : Span) : Type 0 where
+  pub memory : Part line text (min (w .place) (length (now line))) (length (now text))
+  pub holds : now text ≡ take (w .len) (drop (w .place) (now line))
 
 -- the tables have four places, and no more is counted
 pub record SoundAtom (a : Atom) : Type 0 where

@@ -76,15 +76,21 @@ along-stuck form line m i j o t old new e us same some all (ts, d, b, r, sh) nex
     let (rest, q) = next-token s a j (kind-of t) ts us every (between-blanks s i a ts b blanks) (is .lies) in
     let before : take (length ts) us ≡ ts = ap (take (length ts)) q ∙ take-front ts (u ∷ rest) in
     let through : take (suc (length ts)) us ≡ ts ++ (u ∷ []) = ap (take (suc (length ts))) q ∙ one-more ts u rest in
-    subst (λ x. No form (now x) pattern (e .place) × (Pattern ≡ e .question)) same
-    ((us, every, inl (record {
-      number = length ts;
-      token = u;
-      here = subst (λ x. At x (length ts) u) (sym q) (at-next ts rest u);
-      place = at;
-      before = subst (Completes form) (sym before) (run-completes form ts d r);
-      stuck = λ c. never form ts u (run-stuck (start form) d ts u r halt) (subst (Completes form) through c);
-    })), sym why)
+    subst (λ x. No form (now x) pattern (e .place) × (Pattern ≡ e .question)) same (
+      (
+        us,
+        every,
+        inl (record {
+          number = length ts;
+          token = u;
+          here = subst (λ x. At x (length ts) u) (sym q) (at-next ts rest u);
+          place = at;
+          before = subst (Completes form) (sym before) (run-completes form ts d r);
+          stuck = λ c. never form ts u (run-stuck (start form) d ts u r halt) (subst (Completes form) through c);
+        }),
+      ),
+      sym why,
+    )
   where
     one-more : (xs : List plain.Token) (x : plain.Token) (ys : List plain.Token) → take (suc (length xs)) (xs ++ (x ∷ ys)) ≡ xs ++ (x ∷ [])
     one-more [] x ys = refl
@@ -137,11 +143,18 @@ along-end form line m i j None r n (Ok t) same some len (ts, d, b, h, sh) (blank
     subst (λ y. Spells form (now y) t) same (l, writes, keeps, (l, writes, λ w too. keeps-few s t (line-parts l) w keeps (of-line l w too)))
 along-end form line m i j None r n (Err e) same some len (ts, d, b, h, sh) (blanks, _) (inl (q, why, at)) =
     let s = now line in
-    subst (λ y. Patterned form (now y) (Err e)) same (inl ((ts, between-blanks s i (length s) ts b blanks, inr (record {
-      going = run-completes form ts d h;
-      short = λ l f. q (sh .state ∙ ap state-of (some-same d (done l) (sym h ∙ follows-run form ts l f)));
-      place = at ∙ len ∙ ap (λ (y : RefT (List ℕ)). length (now y)) (sym same);
-    })), sym why))
+    subst (λ y. Patterned form (now y) (Err e)) same (inl (
+      (
+        ts,
+        between-blanks s i (length s) ts b blanks,
+        inr (record {
+          going = run-completes form ts d h;
+          short = λ l f. q (sh .state ∙ ap state-of (some-same d (done l) (sym h ∙ follows-run form ts l f)));
+          place = at ∙ len ∙ ap (λ (y : RefT (List ℕ)). length (now y)) (sym same);
+        }),
+      ),
+      sym why,
+    ))
 along-end form line m i j None r n (Err e) same some len (ts, d, b, h, sh) (blanks, _) (inr (q, extra, why)) =
     let s = now line in
     let at-end = blank-shows s r d i (length s) sh (blanks .from) in

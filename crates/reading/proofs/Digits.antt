@@ -2,12 +2,12 @@
 use mathlib.Core.Path.{_≡_, refl, sym, ap, subst, _∙_}
 use mathlib.Core.List.{List, [], _∷_, _++_}
 use mathlib.Core.Logic.{_⊎_, inl, inr}
-use Prim.Native.Nat.{ℕ, zero, suc, _+_, _-_, _*_, _<_, _≤_}
+use Prim.Native.Nat.{ℕ, _+_, _-_, _*_, _<_, _≤_}
 use native.Mathlib.Omega.{arith}
 use lib.ListN.{length, take, drop, getD, take-append-drop}
 use Rattle.std.proofs.shelf.Lists.{take-more, take-all}
 use Rattle.lists.specs.Places.{At}
-use Rattle.lists.proofs.Numbered.{at-snoc}
+use Rattle.lists.proofs.Numbered.{at-snoc, get-at}
 use Rattle.patterns.specs.Asking.{Digit, worth, Decimal, Number, GoodNumber}
 
 worth-snoc : (n : ℕ) (ds : List ℕ) (d : ℕ) → worth n (ds ++ (d ∷ [])) ≡ 10 * worth n ds + (d - 48)
@@ -47,21 +47,15 @@ begun-more text i n m l g q s h = record { decimal = subst (λ (x : ℕ). Decima
 pub begun-all : (text : List ℕ) (i n : ℕ) → length text ≤ i → Begun text i n → Number text n
 begun-all text i n l h = (subst (λ (x : List ℕ). Decimal x n) (take-all i text l) (h .decimal), h .small)
 
--- a byte of the list by its number
-at-get : (xs : List ℕ) (i : ℕ) → i < length xs → At xs i (getD xs i 0)
-at-get [] i l = absurd (omega arith)
-at-get (x ∷ xs) zero l = refl
-at-get (x ∷ xs) (suc i) l = at-get xs i (omega arith)
-
 pub no-digit : (text : List ℕ) (i : ℕ) → i < length text → (Digit (getD text i 0) → ⊥) → GoodNumber text → ⊥
-no-digit text i l g (n, (h, _)) = g (h .digits i (getD text i 0) (at-get text i l))
+no-digit text i l g (n, (h, _)) = g (h .digits i (getD text i 0) (get-at text i 0 l))
 
 -- a front that is too large makes the whole too large
 pub too-large : (text : List ℕ) (i n : ℕ) → i < length text → Digit (getD text i 0) → Begun text i n → 32767 < 10 * n + (getD text i 0 - 48) → GoodNumber text → ⊥
 too-large text i n l g b big (m, (h, small)) =
     let front = more text i n l g (b .decimal) in
     let whole : worth 0 text ≡ worth (10 * n + (getD text i 0 - 48)) (drop (i + 1) text) =
-      ap (worth 0) (sym (take-append-drop (i + 1) text)) ∙ worth-append 0 (take (i + 1) text) (drop (i + 1) text) ∙ ap (λ (x : ℕ). worth x (drop (i + 1) text)) (front .value) in
+    ap (worth 0) (sym (take-append-drop (i + 1) text)) ∙ worth-append 0 (take (i + 1) text) (drop (i + 1) text) ∙ ap (λ (x : ℕ). worth x (drop (i + 1) text)) (front .value) in
     let up = worth-grows (10 * n + (getD text i 0 - 48)) (drop (i + 1) text) in
     let v = h .value in
     omega arith

@@ -38,7 +38,7 @@ whole-read form s (Err e) a b c (inr (y, n, q)) = inr (a, inr (b, inr (c, inr (y
 pub rule-written : (s : List ℕ) (t : Tables) → Spells of-rule s t → Writes of-rule s (rule-line (word-at s (t .label)) (side-of s (t .body)) (side-of s (t .head)))
 rule-written s t (rule-line a b h, w, k, _) =
     let same : rule-line (word-at s (t .label)) (side-of s (t .body)) (side-of s (t .head)) ≡ rule-line a b h =
-      ap (λ (x : Token). rule-line x (side-of s (t .body)) (side-of s (t .head))) (k .label) ∙ ap (λ (x : List Written). rule-line a x (side-of s (t .head))) (k .first) ∙ ap (λ (x : List Written). rule-line a b x) (k .second) in
+    ap (λ (x : Token). rule-line x (side-of s (t .body)) (side-of s (t .head))) (k .label) ∙ ap (λ (x : List Written). rule-line a x (side-of s (t .head))) (k .first) ∙ ap (λ (x : List Written). rule-line a b x) (k .second) in
     subst (λ x. Writes of-rule s x) (sym same) w
 rule-written s t (fact-line a, (ts, _, f), k, _) = absurd f
 

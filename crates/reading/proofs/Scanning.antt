@@ -2,7 +2,7 @@
 use mathlib.Core.Path.{_≡_, refl, sym, ap, subst, _∙_}
 use mathlib.Core.List.{List, [], _∷_, _++_}
 use mathlib.Core.Logic.{_⊎_, inl, inr}
-use Prim.Native.Nat.{ℕ, zero, suc, _-_, _<_, _≤_}
+use Prim.Native.Nat.{ℕ, _<_}
 use native.Mathlib.Omega.{arith}
 use lib.ListN.{length, take, drop}
 use denote.Ref.{RefT, now}
@@ -11,7 +11,7 @@ use Rattle.std.specs.declared.option.Option.the-variants.{Some, None}
 use Rattle.std.specs.declared.result.Result.the-variants.{Ok, Err}
 use Rattle.questions.specs.declared.question.Refusal.{Refusal}
 use Rattle.lists.specs.Places.{At, First}
-use Rattle.lists.proofs.Numbered.{at-snoc, at-next}
+use Rattle.lists.proofs.Numbered.{at-front, at-next, at-snoc}
 use Rattle.tokens.specs.Tokens as plain
 use Rattle.tokens.specs.Tokens.{Kind, token-at, Between, Tokens}
 use Rattle.tokens.specs.Tokens.Between.{none}
@@ -47,12 +47,6 @@ long-back line a e (Close p) is (k, _) = no-kind Kind.closes (λ q. cc) k
 long-back line a e (Comma p) is (k, _) = no-kind Kind.comma (λ q. cc) k
 long-back line a e (Stop p) is (k, _) = no-kind Kind.stop (λ q. cc) k
 
--- an element of the front
-front : {A : Type 0} (xs ys : List A) (k : ℕ) (v : A) → k < length xs → At (xs ++ ys) k v → At xs k v
-front [] ys k v h q = absurd (omega arith)
-front (x ∷ xs) ys zero v h q = q
-front (x ∷ xs) ys (suc k) v h q = front xs ys k v (omega arith) q
-
 -- no word before the place at is long
 abbrev pub Scanned : List ℕ → ℕ → Type 0
 Scanned s at = (ts : List plain.Token) × Between s at 0 ts × ((k : ℕ) (t : plain.Token) → At ts k t → LongWord t → ⊥)
@@ -86,11 +80,18 @@ scan-long form line m i j o t us p same some all (ts, b, n) next l at =
     let u = token-at s a j (kind-of t) in
     let every = subst (λ x. Tokens (now x) us) (sym same) all in
     let (rest, e) = next-token s a j (kind-of t) ts us every (between-blanks s i a ts b blanks) (is .lies) in
-    subst (λ x. No form (now x) word-length p) same (us, length ts, u, every, record {
-      here = subst (λ x. At x (length ts) u) (sym e) (at-next ts rest u);
-      does = long-there line a j t is l;
-      earlier = λ k v h q. n k v (front ts (u ∷ rest) k v h (subst (λ x. At x k v) e q));
-    }, at ∙ is .place)
+    subst (λ x. No form (now x) word-length p) same (
+      us,
+      length ts,
+      u,
+      every,
+      record {
+        here = subst (λ x. At x (length ts) u) (sym e) (at-next ts rest u);
+        does = long-there line a j t is l;
+        earlier = λ k v h q. n k v (at-front ts (u ∷ rest) k v h (subst (λ x. At x k v) e q));
+      },
+      at ∙ is .place,
+    )
 
 pub scan-stray : (line m : RefT (List ℕ)) (i j : ℕ) (e : Refusal) (us : List plain.Token) → line ≡ m → Tokens (now m) us → Scanned (now line) i → Next line i j (Err e) → ⊥
 scan-stray line m i j e us same all (ts, b, n) (_, _, blanks, nothing) =

@@ -1,8 +1,7 @@
 -- The values of a fact line, word by word.
 use mathlib.Core.Path.{_≡_, refl, sym, ap, subst, _∙_}
 use mathlib.Core.List.{List, [], _∷_, _++_, map}
-use mathlib.Core.Logic.{_⊎_, inl, inr}
-use Prim.Native.Nat.{ℕ, zero, suc, _+_, _<_, _≤_}
+use Prim.Native.Nat.{ℕ, _+_, _<_, _≤_}
 use native.Mathlib.Omega.{arith}
 use lib.ListN.{length, take, drop, getD}
 use denote.Ref.{RefT, now}
@@ -15,7 +14,7 @@ use Rattle.tokens.specs.Tokens.{Token}
 use Rattle.patterns.specs.Asking.{Number, GoodNumber}
 use Rattle.patterns.specs.Tables.{spans, word-at}
 use Rattle.patterns.specs.declared.atom.Span.{Span}
-use Rattle.patterns.proofs.Keeping.{map-snoc}
+use Rattle.lists.proofs.Mapped.{map-snoc, at-map-get, at-map-front, pairs-snoc, pairs-at}
 use Rattle.reading.specs.declared.line.FactLine.{FactLine}
 use Rattle.reading.specs.declared.values.Values.{Values}
 use Rattle.reading.specs.Numbers.{values-of, words-of, Valued, Asks}
@@ -23,30 +22,6 @@ use Rattle.reading.specs.Numbers.{values-of, words-of, Valued, Asks}
 -- a word is a number
 abbrev Means : Token → ℕ → Type 0
 Means w n = Number (w .text) n
-
-pairs-more : {A B : Type 0} (R : A → B → Type 0) (xs : List A) (ys : List B) (x : A) (y : B) → Pairwise R xs ys → R x y → Pairwise R (xs ++ (x ∷ [])) (ys ++ (y ∷ []))
-pairs-more R [] [] x y p r = (r, tt)
-pairs-more R [] (b ∷ ys) x y p r = absurd p
-pairs-more R (a ∷ xs) [] x y p r = absurd p
-pairs-more R (a ∷ xs) (b ∷ ys) x y (q, p) r = (q, pairs-more R xs ys x y p r)
-
-pairs-at : {A B : Type 0} (R : A → B → Type 0) (xs : List A) (ys : List B) (k : ℕ) (x : A) → Pairwise R xs ys → At xs k x → (y : B) × R x y
-pairs-at R [] ys k x p h = absurd h
-pairs-at R (a ∷ xs) [] k x p h = absurd p
-pairs-at R (a ∷ xs) (b ∷ ys) zero x (q, p) h = (b, subst (λ z. R z b) h q)
-pairs-at R (a ∷ xs) (b ∷ ys) (suc k) x (q, p) h = pairs-at R xs ys k x p h
-
--- an element of a mapped list, and of its front
-at-map-get : {A B : Type 0} (f : A → B) (xs : List A) (i : ℕ) (d : A) → i < length xs → At (map f xs) i (f (getD xs i d))
-at-map-get f [] i d l = absurd (omega arith)
-at-map-get f (x ∷ xs) zero d l = refl
-at-map-get f (x ∷ xs) (suc i) d l = at-map-get f xs i d (omega arith)
-
-at-map-front : {A B : Type 0} (f : A → B) (xs : List A) (i j : ℕ) (y : B) → j < i → At (map f xs) j y → At (map f (take i xs)) j y
-at-map-front f [] i j y l h = absurd h
-at-map-front f (x ∷ xs) zero j y l h = absurd (omega arith)
-at-map-front f (x ∷ xs) (suc i) zero y l h = h
-at-map-front f (x ∷ xs) (suc i) (suc j) y l h = at-map-front f xs i j y (omega arith) h
 
 -- the first i words are numbers, and these are their values
 pub record Front (s : List ℕ) (ws : List Span) (i : ℕ) (v : Values) : Type 0 where
@@ -59,7 +34,7 @@ front-none s ws v e = record { count = e; pairs = subst (λ (k : ℕ). Pairwise 
 pub front-more : (s : List ℕ) (ws : List Span) (i : ℕ) (d : Span) (v u : Values) (n : ℕ) → i < length ws → Front s ws i v → Number (word-at s (getD ws i d) .text) n → u .count ≡ v .count + 1 → values-of u ≡ values-of v ++ (n ∷ []) → Front s ws (i + 1) u
 front-more s ws i d v u n l f h c e = record {
   count = let q = f .count in omega arith;
-  pairs = subst (λ (ys : List ℕ). Pairwise Means (map (word-at s) (take (i + 1) ws)) ys) (sym e) (subst (λ (xs : List Token). Pairwise Means xs (values-of v ++ (n ∷ []))) (sym split) (pairs-more Means (map (word-at s) (take i ws)) (values-of v) (word-at s (getD ws i d)) n (f .pairs) h));
+  pairs = subst (λ (ys : List ℕ). Pairwise Means (map (word-at s) (take (i + 1) ws)) ys) (sym e) (subst (λ (xs : List Token). Pairwise Means xs (values-of v ++ (n ∷ []))) (sym split) (pairs-snoc Means (map (word-at s) (take i ws)) (values-of v) (word-at s (getD ws i d)) n (f .pairs) h));
 }
   where
     split : map (word-at s) (take (i + 1) ws) ≡ map (word-at s) (take i ws) ++ (word-at s (getD ws i d) ∷ [])

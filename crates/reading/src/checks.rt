@@ -53,8 +53,7 @@ fn check_word(token: Token) -> Result<(), Refusal>
 
 // The lexer cannot refuse a line whose bytes all belong to tokens, so only a long word does.
 pub fn check_words(line: &[u8]) -> Result<(), Refusal>
-    requires { ⌜ ((ts : List PlainToken) × Tokens (now line) ts) ⌝ }
-    ensures { λ r. ⌜ ((form : PlainForm) → Answers form (now (line .entry)) word-length r) ⌝ }
+    ensures { λ r. ⌜ ((form : PlainForm) (ts : List PlainToken) → Tokens (now (line .entry)) ts → Answers form (now (line .entry)) word-length r) ⌝ }
 {
     let mut lexer = Lexer::new(line);
     while let Some(token) = lexer.next_token()? {

@@ -12,7 +12,7 @@ use Rattle.questions.specs.declared.question.Refusal.{Refusal}
 use Rattle.questions.specs.declared.question.Question.the-variants.{Bytes}
 use Rattle.tokens.specs.Tokens.{Kind, Lies, Nothing-at}
 use Rattle.tokens.specs.Tokens.Kind.{word, bars, arrow, opens, closes, comma, stop}
-use Rattle.tokens.specs.Parts.{Part}
+use Rattle.lists.specs.Parts.{Part}
 use Rattle.tokens.specs.declared.token.Token.{Token}
 use Rattle.tokens.specs.declared.token.Token.the-variants.{Word, Bars, Arrow, Open, Close, Comma, Stop}
 

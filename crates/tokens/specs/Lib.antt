@@ -1,4 +1,4 @@
 pub mod Lexing
-pub mod Parts
 pub mod Reach
 pub mod Tokens
+pub mod Words

@@ -6,9 +6,9 @@ ghost use Rattle.std.specs.Options.{Cases};
 ghost use Rattle.std.specs.Orderings.{Decides};
 ghost use Rattle.tokens.specs.Reach.{Single, Reach};
 ghost use Rattle.tokens.specs.Tokens.{Token, Tokens, Stray, Determined};
-use crate::marks::is_arrow;
-use crate::marks::is_bars;
-use crate::words::is_word_byte;
+use crate::is_arrow;
+use crate::is_bars;
+use crate::is_word_byte;
 
 // Bytes that are passed one at a time. A word is passed byte by byte, so that no byte is judged twice.
 fn is_single(b: u8) -> bool

@@ -7,12 +7,12 @@ ghost use Rattle.std.specs.Results.{Cases};
 ghost use Rattle.questions.specs.declared.question.Question.the-variants.{Bytes};
 ghost use Rattle.tokens.specs.Tokens.{Byte, Nothing-at};
 ghost use Rattle.tokens.specs.Lexing.{place-of, Is, Blanks, Next};
-use crate::marks::is_arrow;
-use crate::marks::is_bars;
+use crate::is_arrow;
+use crate::is_bars;
+use crate::is_word_byte;
+use crate::part;
+use crate::run_end;
 use crate::token::Token;
-use crate::words::is_word_byte;
-use crate::words::part;
-use crate::words::run_end;
 use questions::question::Question;
 use questions::question::Refusal;
 

@@ -15,9 +15,7 @@ returns c = record {
     omega arith,
     omega arith,
     record {
-      block = search needs;
-      offset = search needs;
-      holds = search needs;
+      memory = record { block = search needs; offset = search needs; long = refl; holds = search needs };
       behind = search needs;
       onwards = search needs;
       within = search needs;

@@ -16,14 +16,12 @@ returns-in-Break-check-bytes c =
     let p = err-from-errBy (c .from-residual-in-Break-check-bytes .result) (c .from-residual-in-Break-check-bytes .ensures .1) in
     rw (p .1, p .2) (turned-bytes form _ _ (c .in-Continue-check-length .ensures tt form) (c .in-Break-check-bytes .ensures tt form))
 
-pub check-words-requires : need.check-words-requires
-check-words-requires c κs = c .in-Continue-check-bytes .ensures tt (form-of (c .args .form))
-
 pub returns-in-Break-check-words : need.returns-in-Break-check-words
 returns-in-Break-check-words c =
     let form = form-of (c .args .form) in
+    let (ts, all) = c .in-Continue-check-bytes .ensures tt form in
     let p = err-from-errBy (c .from-residual-in-Break-check-words .result) (c .from-residual-in-Break-check-words .ensures .1) in
-    rw (p .1, p .2) (turned-words form _ _ (c .in-Continue-check-length .ensures tt form) (c .in-Continue-check-bytes .ensures tt form) (c .in-Break-check-words .ensures tt form))
+    rw (p .1, p .2) (turned-words form _ _ (c .in-Continue-check-length .ensures tt form) (c .in-Continue-check-bytes .ensures tt form) (c .in-Break-check-words .ensures tt form ts all))
 
 pub read-pattern-requires : need.read-pattern-requires
 read-pattern-requires c κs = c .in-Continue-check-bytes .ensures tt (form-of (c .args .form))
@@ -31,4 +29,5 @@ read-pattern-requires c κs = c .in-Continue-check-bytes .ensures tt (form-of (c
 pub returns : need.returns
 returns c =
     let form = form-of (c .args .form) in
-    whole-read form _ _ (c .in-Continue-check-length .ensures tt form) (c .in-Continue-check-bytes .ensures tt form) (c .in-Continue-check-words .ensures tt form) (c .read-pattern .ensures)
+    let (ts, all) = c .in-Continue-check-bytes .ensures tt form in
+    whole-read form _ _ (c .in-Continue-check-length .ensures tt form) (c .in-Continue-check-bytes .ensures tt form) (c .in-Continue-check-words .ensures tt form ts all) (c .read-pattern .ensures)

@@ -4,7 +4,7 @@ use mathlib.Core.Logic.{inl, inr}
 use Prim.Native.Nat.{_<_, _≤_}
 use native.Mathlib.Omega.{arith}
 use lib.ListN.{length, length-set}
-use Rattle.patterns.proofs.Fronts.{front-last, front-set}
+use Rattle.lists.proofs.Fronts.{front-last, front-set}
 use Rattle.patterns.proofs.atom.Side.add.Needs as need
 
 pub returns : need.returns

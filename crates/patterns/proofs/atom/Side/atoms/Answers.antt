@@ -2,7 +2,7 @@ use borrow.Author.Needs.{needs}
 use mathlib.Core.Path.{_≡_}
 use native.Mathlib.Omega.{arith}
 use lib.ListN.{length}
-use Rattle.patterns.proofs.Fronts.{clipped}
+use Rattle.lists.proofs.Fronts.{clipped}
 use Rattle.patterns.proofs.atom.Side.atoms.Needs as need
 
 pub returns : need.returns

@@ -10,6 +10,12 @@ pub returns : need.returns
 returns c =
     let h : c .args .self .now .count < length (c .args .self .now .atoms) = search needs in
     let n = c .if-n-ge4 .left in
-    let a = c .new .result in
-    (a, take-more-set _ _ _ h, c .new .ensures .predicate, ap (λ (k : ℕ). take k (a .words)) (c .new .ensures .empty),
-      record { few = subst (λ (k : ℕ). k ≤ 4) (sym (c .new .ensures .empty)) (omega arith); wide = c .new .ensures .wide }, omega arith, simp length-set)
+    let a = c .new .result in (
+      a,
+      take-more-set _ _ _ h,
+      c .new .ensures .predicate,
+      ap (λ (k : ℕ). take k (a .words)) (c .new .ensures .empty),
+      record { few = subst (λ (k : ℕ). k ≤ 4) (sym (c .new .ensures .empty)) (omega arith); wide = c .new .ensures .wide },
+      omega arith,
+      simp length-set,
+    )

@@ -1,12 +1,14 @@
-use mathlib.Core.Path.{_≡_, refl, _∙_, ap}
-use Prim.Native.Nat.{ℕ, _+_}
+use borrow.Author.Needs.{needs}
+use mathlib.Core.Path.{refl}
 use native.Mathlib.Omega.{arith}
-use Rattle.patterns.proofs.Fronts.{part-clipped}
+use Rattle.lists.proofs.Fronts.{part-clipped, part-front}
 use Rattle.patterns.proofs.atom.Span.text.Needs as need
 
 pub returns : need.returns
-returns c = record {
-  block = refl;
-  offset = omega (arith, c .min-from .ensures);
-  holds = part-clipped (c .args .line .now) (c .args .self .place) (c .args .self .len) (c .min-from .result) (c .min .result) (c .min-from .ensures) (c .min .ensures);
-}
+returns c =
+    let s = c .args .line .now in
+    let w = c .args .self in
+    record {
+      memory = record { block = refl; offset = omega (arith, c .min-from .ensures); long = refl; holds = part-front s (w .place) (c .min-from .result) (c .min .result) (c .min-from .ensures) };
+      holds = part-clipped s (w .place) (w .len) (c .min-from .result) (c .min .result) (c .min-from .ensures) (c .min .ensures);
+    }

@@ -1,6 +1,6 @@
 use borrow.Author.Needs.{needs}
 use Rattle.tokens.specs.Tokens.{wordByte}
-use Rattle.tokens.proofs.words.is_word_byte.Needs as need
+use Rattle.tokens.proofs.is_word_byte.Needs as need
 
 pub returns-then-is-ascii-alphanumeric : need.returns-then-is-ascii-alphanumeric
 unfolding wordByte

@@ -1,18 +1,12 @@
--- Parts of a line by their place in memory, and the word that begins at a place.
+-- The word that begins at a place of a line.
 use mathlib.Core.Path.{_≡_}
 use mathlib.Core.Bool.{true, false}
 use mathlib.Core.List.{List}
-use Prim.Native.Nat.{ℕ, _+_, _-_, _<_}
-use lib.ListN.{length, getD, take, drop}
-use denote.Ref.{RefT, ptr, now}
+use Prim.Native.Nat.{ℕ, _-_, _<_}
+use lib.ListN.{length, getD}
+use denote.Ref.{RefT, now}
+use Rattle.lists.specs.Parts.{Part}
 use Rattle.tokens.specs.Tokens.{wordByte, Run}
-
--- part is the line's own memory from the place at on, n bytes long
-pub record Part (line part : RefT (List ℕ)) (at n : ℕ) : Type 0 where
-  pub block : ptr part .0 ≡ ptr line .0
-  pub offset : ptr part .1 ≡ ptr line .1 + at
-  pub long : length (now part) ≡ n
-  pub holds : now part ≡ take n (drop at (now line))
 
 -- a word begins at the place i: a word byte is there, and none right before it
 pub record Begins (s : List ℕ) (i : ℕ) : Type 0 where

@@ -2,7 +2,7 @@
 use mathlib.Core.Path.{_≡_, refl, sym, ap, subst, _∙_}
 use mathlib.Core.List.{List, [], _∷_, _++_}
 use mathlib.Core.Logic.{_⊎_, inl, inr}
-use Prim.Native.Nat.{ℕ, min, _+_, _-_, _<_, _≤_}
+use Prim.Native.Nat.{ℕ, zero, suc, min, _+_, _-_, _<_, _≤_}
 use native.Mathlib.Omega.{arith}
 use lib.ListN.{length, take, drop, getD, set, length-drop}
 use lib.Seq.{take-nil}
@@ -49,3 +49,12 @@ module _ {A : Type 0} where
           let end = empty from (omega arith) in
           let past = empty at (omega arith) in
           ap (take m) end ∙ take-nil m ∙ sym (ap (take n) past ∙ take-nil n)
+
+  -- a part is as long as it is
+  pub part-front : (xs : List A) (at from m : ℕ) → from ≡ min at (length xs) → take (from + m - from) (drop from xs) ≡ take (length (take (from + m - from) (drop from xs))) (drop (min at (length xs)) xs)
+  part-front xs at from m e = sym (take-length-take (from + m - from) (drop from xs)) ∙ ap (λ (k : ℕ). take (length (take (from + m - from) (drop from xs))) (drop k xs)) e
+    where
+      take-length-take : (k : ℕ) (ys : List A) → take (length (take k ys)) ys ≡ take k ys
+      take-length-take zero ys = refl
+      take-length-take (suc k) [] = refl
+      take-length-take (suc k) (y ∷ ys) = ap (λ (z : List A). y ∷ z) (take-length-take k ys)

@@ -1,6 +1,9 @@
 // Words and atoms of a line, in plain tables: how a line that is read is kept without a heap.
 mod methods;
 
+// The most atoms of a side, and the most words in an atom's brackets.
+const MOST: usize = 4;
+
 // A word of a line: where it begins, and how many bytes it has.
 #[derive(Clone, Copy, Debug, PartialEq, Eq)]
 pub struct Span {
@@ -12,13 +15,13 @@ pub struct Span {
 #[derive(Clone, Copy, Debug)]
 pub struct Atom {
     predicate: Span,
-    words: [Span; 4],
+    words: [Span; MOST],
     count: usize,
 }
 
 // The atoms of one side of a rule, or the one atom of a fact: of the table, the first `count`.
 #[derive(Clone, Copy, Debug)]
 pub struct Side {
-    atoms: [Atom; 4],
+    atoms: [Atom; MOST],
     count: usize,
 }

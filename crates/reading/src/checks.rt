@@ -10,10 +10,14 @@ use tokens::bytes::first_bad;
 use tokens::lexer::Lexer;
 use tokens::token::Token;
 
+const LONGEST_LINE: usize = 400;
+
+const LONGEST_WORD: usize = 8;
+
 pub fn check_length(line: &[u8]) -> Result<(), Refusal>
     ensures { λ r. ⌜ ((form : PlainForm) → Answers form (now (line .entry)) line-length r) ⌝ }
 {
-    if line.len() > 400 {
+    if line.len() > LONGEST_LINE {
         return Err(Refusal {
             question: Question::LineLength,
             place: 0,
@@ -39,7 +43,7 @@ fn check_word(token: Token) -> Result<(), Refusal>
 {
     match token {
         Token::Word { text, place } => {
-            if text.len() > 8 {
+            if text.len() > LONGEST_WORD {
                 return Err(Refusal {
                     question: Question::WordLength,
                     place,

@@ -5,6 +5,7 @@ ghost use Prim.Native.Nat.{ℕ, _≤_};
 ghost use lib.ListN.{length};
 ghost use Rattle.patterns.specs.Tables.{spans, atoms-of, Text, SoundSide, Pushed, Begun, Added};
 use super::Atom;
+use super::MOST;
 use super::Side;
 use super::Span;
 
@@ -27,7 +28,7 @@ impl Atom {
     {
         Atom {
             predicate,
-            words: [predicate; 4],
+            words: [predicate; MOST],
             count: 0,
         }
     }
@@ -43,7 +44,7 @@ impl Atom {
         ensures words { λ r. ⌜ now r ≡ spans (now (self .entry)) ⌝ }
         ensures few { λ r. ⌜ length (now r) ≤ 4 ⌝ }
     {
-        let n = self.count.min(4);
+        let n = self.count.min(MOST);
         &self.words[0..n]
     }
 
@@ -52,7 +53,7 @@ impl Atom {
         ensures { λ r. ⌜ Pushed (now (self .entry)) word (now (self .exit)) r ⌝ }
     {
         let n = self.count;
-        if n >= 4 {
+        if n >= MOST {
             return false;
         }
         self.words[n] = word;
@@ -67,17 +68,15 @@ impl Side {
         ensures empty { λ r. ⌜ atoms-of r ≡ [] ⌝ }
         ensures sound { λ r. ⌜ SoundSide r ⌝ }
     {
-        Side {
-            atoms: [Atom::new(filler); 4],
-            count: 0,
-        }
+        let atoms = [Atom::new(filler); MOST];
+        Side { atoms, count: 0 }
     }
 
     pub fn atoms(&self) -> &[Atom]
         ensures atoms { λ r. ⌜ now r ≡ atoms-of (now (self .entry)) ⌝ }
         ensures few { λ r. ⌜ length (now r) ≤ 4 ⌝ }
     {
-        let n = self.count.min(4);
+        let n = self.count.min(MOST);
         &self.atoms[0..n]
     }
 
@@ -86,7 +85,7 @@ impl Side {
         ensures { λ r. ⌜ Begun (now (self .entry)) predicate (now (self .exit)) r ⌝ }
     {
         let n = self.count;
-        if n >= 4 {
+        if n >= MOST {
             return false;
         }
         self.atoms[n] = Atom::new(predicate);
@@ -98,7 +97,7 @@ impl Side {
     pub fn add(&mut self, word: Span) -> bool
         ensures { λ r. ⌜ Added (now (self .entry)) word (now (self .exit)) r ⌝ }
     {
-        if self.count == 0 || self.count > 4 {
+        if self.count == 0 || self.count > MOST {
             return true;
         }
         let last = self.count - 1;

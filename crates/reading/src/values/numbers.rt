@@ -10,6 +10,8 @@ use crate::line::FactLine;
 use questions::question::Question;
 use questions::question::Refusal;
 
+const GREATEST: u32 = 32_767;
+
 // The number that the bytes spell. It is given up as soon as it is too large, so that nothing overflows.
 fn decimal(text: &[u8]) -> Option<u16>
     ensures { λ r. ⌜ Cases r (GoodNumber (now (text .entry)) → ⊥) (λ n. Number (now (text .entry)) n) ⌝ }
@@ -20,7 +22,7 @@ fn decimal(text: &[u8]) -> Option<u16>
             return None;
         }
         let next = 10 * u32::from(n) + u32::from(*b - b'0');
-        if next > 32767 {
+        if next > GREATEST {
             return None;
         }
         n = next as u16;

@@ -9,7 +9,7 @@ use Rattle.patterns.proofs.atom.Side.begin.Needs as need
 pub returns : need.returns
 returns c =
     let h : c .args .self .now .count < length (c .args .self .now .atoms) = search needs in
-    let n = c .if-n-ge4 .left in
+    let n = c .if-n-ge-MOST .left in
     let a = c .new .result in (
       a,
       take-more-set _ _ _ h,

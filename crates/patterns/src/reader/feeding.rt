@@ -2,6 +2,7 @@
 ghost use mathlib.Core.Path.{_≡_};
 ghost use mathlib.Core.List.{List};
 ghost use Prim.Native.Nat.{ℕ};
+ghost use Rattle.std.specs.Vec.{refused};
 ghost use Rattle.patterns.specs.Machine.{start};
 ghost use Rattle.patterns.specs.Drafts.{form-of, Shows, Same, Advanced, Fed, Finished};
 use super::Reader;
@@ -40,6 +41,7 @@ impl Reader {
     fn advance(&mut self, token: Token) -> Result<(), Refusal>
         ensures advanced { λ r. ⌜ Advanced (now (self .entry)) (token .entry) (now (self .exit)) r ⌝ }
         ensures same { λ _. ⌜ Same (now (self .entry)) (now (self .exit)) ⌝ }
+        ensures unmoved { λ r. ⌜ refused r (λ _. now (self .exit) ≡ now (self .entry)) ⌝ }
     {
         self.state = match (self.state, token) {
             (State::Label, Token::Word { .. }) => State::Bars,
@@ -66,7 +68,8 @@ impl Reader {
 
     // Takes the token, or says that it cannot stand there.
     pub fn feed(&mut self, token: Token) -> Result<(), Refusal>
-        ensures { λ r. ⌜ Fed (now (self .entry)) (token .entry) (now (self .exit)) r ⌝ }
+        ensures fed { λ r. ⌜ Fed (now (self .entry)) (token .entry) (now (self .exit)) r ⌝ }
+        ensures unmoved { λ r. ⌜ refused r (λ _. now (self .exit) ≡ now (self .entry)) ⌝ }
     {
         let state = self.state;
         self.advance(token)?;
@@ -79,6 +82,7 @@ impl Reader {
         }
         Ok(())
     }
+
     // What was kept, once the line of this length has come to its end.
     pub fn finish(self, len: usize) -> Result<Tables, Refusal>
         ensures { λ r. ⌜ Finished self len r ⌝ }

@@ -22,7 +22,7 @@ pub loop-token-again : need.loop-token-again
 loop-token-again c =
     let inv = c .loop-token .inv in
     let n = c .in-Continue-token .ensures tt in
-    (n .line ∙ inv .0, λ form shows. along-more form _ _ _ _ _ _ (c .loop-token .reader) (c .feed .last .self) (n .line) (c .in-Some .is) (inv .1 form shows) (n .next) (c .in-Continue-feed .ensures tt))
+    (n .line ∙ inv .0, λ form shows. along-more form _ _ _ _ _ _ (c .loop-token .reader) (c .feed .last .self) (n .line) (c .in-Some .is) (inv .1 form shows) (n .next) (c .in-Continue-feed .ensures tt .fed))
 
 pub returns-in-Break-feed : need.returns-in-Break-feed
 returns-in-Break-feed c =
@@ -30,7 +30,7 @@ returns-in-Break-feed c =
     let n = c .in-Continue-token .ensures tt in
     let form = form-of (c .args .form) in
     let p = err-from-errBy (c .from-residual-in-Break-feed .result) (c .from-residual-in-Break-feed .ensures .1) in
-    rw (p .1, p .2) (inl (along-stuck form _ _ _ _ _ _ (c .loop-token .reader) (c .feed .last .self) _ (c .pre .0) (inv .0 ∙ c .new-lexer .ensures .line) (c .in-Some .is) (c .pre .1) (inv .1 form (c .new-reader .ensures)) (n .next) (c .in-Break-feed .ensures tt)))
+    rw (p .1, p .2) (inl (along-stuck form _ _ _ _ _ _ (c .loop-token .reader) (c .feed .last .self) _ (c .pre .0) (inv .0 ∙ c .new-lexer .ensures .line) (c .in-Some .is) (c .pre .1) (inv .1 form (c .new-reader .ensures)) (n .next) (c .in-Break-feed .ensures tt .fed)))
 
 pub returns : need.returns
 returns c =

@@ -20,7 +20,7 @@ pub data Cut : List ℕ → List (List ℕ) → Type 0 where
   last : {s : List ℕ} → 0 < length s → NoNewline s → Cut s (s ∷ [])
   line : {s : List ℕ} {ls : List (List ℕ)} (l rest : List ℕ) → NoNewline l → s ≡ l ++ (10 ∷ rest) → Cut rest ls → Cut s (l ∷ ls)
 
--- an input has one list of lines
+-- an input has at most one list of lines
 abbrev pub Cut-determined : List ℕ → Type 0
 Cut-determined s = (xs ys : List (List ℕ)) → Cut s xs → Cut s ys → xs ≡ ys
 
@@ -31,7 +31,7 @@ pub record Ends (s : List ℕ) (i e : ℕ) : Type 0 where
   pub before : (k : ℕ) → i ≤ k → k < e → getD s k 0 ≡ 10 → ⊥
   pub stops : e < length s → getD s e 0 ≡ 10
 
--- line is the text's own memory from the place at on; it, followed by the lines of what is left at next, are the lines of what was left at at
+-- line is the text's own memory from the place at on; it, followed by the lines from next on, are the lines from at on
 pub record Handed (text line : RefT (List ℕ)) (at next : ℕ) : Type 0 where
   pub memory : Part text line at (length (now line))
   pub behind : at + length (now line) ≤ next
@@ -39,7 +39,7 @@ pub record Handed (text line : RefT (List ℕ)) (at next : ℕ) : Type 0 where
   pub within : next ≤ length (now text)
   pub lines : (rest : List (List ℕ)) → Cut (drop next (now text)) rest → Cut (drop at (now text)) (now line ∷ rest)
 
--- with n lines handed out and the rest of the text at the place at comes r, and then m lines are handed out and the rest is at next
+-- n lines were handed out and the text is cut up to the place at; r comes next; then m were, and it is cut up to next
 abbrev pub Next : RefT (List ℕ) → ℕ → ℕ → ℕ → ℕ → Option NumberedLine → Type 0
 Next text at n next m None = Cut (drop at (now text)) [] × (next ≡ at) × (m ≡ n)
 Next text at n next m (Some x) = (x .number ≡ n + 1) × (m ≡ n + 1) × Handed text (x .text) at next

@@ -60,13 +60,14 @@ impl<'a> Lines<'a> {
         // Behind the newline, if there is one.
         let next = text.len().min(end + 1);
         let number = self.number + 1;
+        // Written whole, since what its type says holds only of all three together.
         *self = Lines {
             text,
             at: next,
             number,
         };
         Some(NumberedLine {
-            number: self.number,
+            number,
             text: &text[from..end],
         })
     }

@@ -109,7 +109,7 @@ grew (done l) t k = no-draft (done l) t k
 -- what is held stays so at a later place
 later : (s : List ℕ) (t : Tables) (extra : Option ℕ) (x : Parts) (at e : ℕ) → Held s t extra x at → at ≤ e → Held s t extra x e
 later s t None x at e h l = h
-later s t (Some p) x at e h l = record { word = h .word; extra = h .extra; place = h .place; least = h .least; behind = let b = h .behind in omega arith }
+later s t (Some p) x at e h l = record { word = h .word; extra = h .extra; place = h .place; least = h .least; reached = let b = h .reached in omega arith }
 
 -- the span of a word token is the token
 spanned : (s : List ℕ) (w : Span) (a e : ℕ) → w .place ≡ a → w .len ≡ e - a → word-at s w ≡ token-at s a e word

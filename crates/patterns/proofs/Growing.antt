@@ -10,7 +10,7 @@ use Rattle.lists.proofs.Numbered.{at-left, at-next, at-snoc}
 use Rattle.tokens.specs.Tokens.{Token}
 use Rattle.patterns.specs.Patterns.{Written, Over, Extra}
 use Rattle.patterns.specs.Machine.{atom-of}
-use Rattle.patterns.specs.declared.state.Part.the-variants.{Body, Head, Fact}
+use Rattle.patterns.specs.declared.state.Section.the-variants.{Body, Head, Fact}
 use Rattle.patterns.specs.declared.state.State.{State}
 use Rattle.patterns.specs.declared.state.State.the-variants as state
 use Rattle.patterns.specs.Drafts.{Parts, push-word, grown, ExtraIn}

@@ -20,8 +20,8 @@ use Rattle.patterns.specs.declared.atom.Span.{Span}
 use Rattle.patterns.specs.declared.atom.Atom.{Atom}
 use Rattle.patterns.specs.declared.atom.Side.{Side}
 use Rattle.patterns.specs.declared.reader.Tables.{Tables}
-use Rattle.patterns.specs.declared.state.Part.{Part}
-use Rattle.patterns.specs.declared.state.Part.the-variants.{Body, Head, Fact}
+use Rattle.patterns.specs.declared.state.Section.{Section}
+use Rattle.patterns.specs.declared.state.Section.the-variants.{Body, Head, Fact}
 use Rattle.patterns.specs.declared.state.State.{State}
 use Rattle.patterns.specs.declared.state.State.the-variants as state
 use Rattle.patterns.specs.Tables.{spans, atoms-of, word-at, written, side-of, SoundAtom, SoundSide, Pushed, Begun, AddedLast, Added}
@@ -30,7 +30,7 @@ use Rattle.lists.proofs.Fronts.{full}
 use Rattle.lists.proofs.Mapped.{map-snoc, at-map}
 use Rattle.patterns.proofs.Growing.{push-last, name-extra, word-extra, extra-stays, extra-back}
 
-not-head : (_≡_ {A = Part} Head Body) ⊎ (_≡_ {A = Part} Head Fact) → ⊥
+not-head : (_≡_ {A = Section} Head Body) ⊎ (_≡_ {A = Section} Head Fact) → ⊥
 not-head (inl e) = let z : _≡_ {A = ℕ} 0 1 = cc in omega arith
 not-head (inr e) = let z : _≡_ {A = ℕ} 0 1 = cc in omega arith
 
@@ -55,7 +55,7 @@ name-first : (w : Span) (old : Tables) (d : Side) (r : Bool) → Begun (old .bod
 name-first w old d true b s x k = record { label = k .label; first = begun-true s (old .body) d w (x .first) (k .first) b; second = k .second; body-sound = begun-sound (old .body) d w (k .body-sound) b; head-sound = k .head-sound }
 name-first w old d false b s x k = name-extra (both (grown (state.Name Body) x (word-at s w))) 0 (x .first) (word-at s w) refl (begun-false s (old .body) d w (x .first) (k .first) (k .body-sound) b)
 
-pub name-in-first : (p : Part) (w : Span) (old : Tables) (d : Side) (r : Bool) → (p ≡ Body) ⊎ (p ≡ Fact) → Begun (old .body) w d r → Kept (state.Name p) w old (record { label = old .label; body = d; head = old .head }) r
+pub name-in-first : (p : Section) (w : Span) (old : Tables) (d : Side) (r : Bool) → (p ≡ Body) ⊎ (p ≡ Fact) → Begun (old .body) w d r → Kept (state.Name p) w old (record { label = old .label; body = d; head = old .head }) r
 name-in-first Body w old d r e b = name-first w old d r b
 name-in-first Head w old d r e b = absurd (not-head e)
 name-in-first Fact w old d r e b = name-first w old d r b
@@ -64,7 +64,7 @@ name-second : (w : Span) (old : Tables) (d : Side) (r : Bool) → Begun (old .he
 name-second w old d true b s x k = record { label = k .label; first = k .first; second = begun-true s (old .head) d w (x .second) (k .second) b; body-sound = k .body-sound; head-sound = begun-sound (old .head) d w (k .head-sound) b }
 name-second w old d false b s x k = name-extra (both (grown (state.Name Head) x (word-at s w))) 1 (x .second) (word-at s w) refl (begun-false s (old .head) d w (x .second) (k .second) (k .head-sound) b)
 
-pub name-in-second : (p : Part) (w : Span) (old : Tables) (d : Side) (r : Bool) → p ≡ Head → Begun (old .head) w d r → Kept (state.Name p) w old (record { label = old .label; body = old .body; head = d }) r
+pub name-in-second : (p : Section) (w : Span) (old : Tables) (d : Side) (r : Bool) → p ≡ Head → Begun (old .head) w d r → Kept (state.Name p) w old (record { label = old .label; body = old .body; head = d }) r
 name-in-second p w old d r e b = subst (λ q. Kept (state.Name q) w old (record { label = old .label; body = old .body; head = d }) r) (sym e) (name-second w old d r b)
 
 -- ---- a word in brackets
@@ -115,7 +115,7 @@ word-first : (w : Span) (old : Tables) (d : Side) (r : Bool) → Added (old .bod
 word-first w old d true b s x k = record { label = k .label; first = added-true s (old .body) d w (x .first) (k .first) (k .body-sound) b; second = k .second; body-sound = added-sound (old .body) d w (k .body-sound) b; head-sound = k .head-sound }
 word-first w old d false b s x k = fifth-word (both (grown (state.Word Body) x (word-at s w))) 0 (x .first) (word-at s w) refl (added-false s (old .body) d w (x .first) (k .first) (k .body-sound) b)
 
-pub word-in-first : (p : Part) (w : Span) (old : Tables) (d : Side) (r : Bool) → (p ≡ Body) ⊎ (p ≡ Fact) → Added (old .body) w d r → Kept (state.Word p) w old (record { label = old .label; body = d; head = old .head }) r
+pub word-in-first : (p : Section) (w : Span) (old : Tables) (d : Side) (r : Bool) → (p ≡ Body) ⊎ (p ≡ Fact) → Added (old .body) w d r → Kept (state.Word p) w old (record { label = old .label; body = d; head = old .head }) r
 word-in-first Body w old d r e b = word-first w old d r b
 word-in-first Head w old d r e b = absurd (not-head e)
 word-in-first Fact w old d r e b = word-first w old d r b
@@ -124,14 +124,14 @@ word-second : (w : Span) (old : Tables) (d : Side) (r : Bool) → Added (old .he
 word-second w old d true b s x k = record { label = k .label; first = k .first; second = added-true s (old .head) d w (x .second) (k .second) (k .head-sound) b; body-sound = k .body-sound; head-sound = added-sound (old .head) d w (k .head-sound) b }
 word-second w old d false b s x k = fifth-word (both (grown (state.Word Head) x (word-at s w))) 1 (x .second) (word-at s w) refl (added-false s (old .head) d w (x .second) (k .second) (k .head-sound) b)
 
-pub word-in-second : (p : Part) (w : Span) (old : Tables) (d : Side) (r : Bool) → p ≡ Head → Added (old .head) w d r → Kept (state.Word p) w old (record { label = old .label; body = old .body; head = d }) r
+pub word-in-second : (p : Section) (w : Span) (old : Tables) (d : Side) (r : Bool) → p ≡ Head → Added (old .head) w d r → Kept (state.Word p) w old (record { label = old .label; body = old .body; head = d }) r
 word-in-second p w old d r e b = subst (λ q. Kept (state.Word q) w old (record { label = old .label; body = old .body; head = d }) r) (sym e) (word-second w old d r b)
 
 -- ---- a label, and a word where none is kept
 pub label-kept : (w : Span) (old : Tables) → Kept state.Label w old (record { label = w; body = old .body; head = old .head }) true
 label-kept w old s x k = record { label = refl; first = k .first; second = k .second; body-sound = k .body-sound; head-sound = k .head-sound }
 
-pub rest-kept : (st : State) (w : Span) (old : Tables) → (st ≡ state.Label → ⊥) → ((p : Part) → st ≡ state.Name p → ⊥) → ((p : Part) → st ≡ state.Word p → ⊥) → Kept st w old old true
+pub rest-kept : (st : State) (w : Span) (old : Tables) → (st ≡ state.Label → ⊥) → ((p : Section) → st ≡ state.Name p → ⊥) → ((p : Section) → st ≡ state.Word p → ⊥) → Kept st w old old true
 rest-kept state.Label w old a b c s x k = absurd (a refl)
 rest-kept state.Bars w old a b c s x k = k
 rest-kept (state.Name p) w old a b c s x k = absurd (b p refl)
@@ -170,7 +170,7 @@ note-kept st w old new (Some p) e k s x at h l = absurd (both-ways _ e refl)
 
 pub note-extra : (st : State) (w : Span) (old new : Tables) (extra : Option ℕ) → isSome extra ≡ false → Kept st w old new false
     → (s : List ℕ) (x : Parts) (at : ℕ) → Held s old extra x at → at ≤ w .place → Held s new (Some (w .place)) (grown st x (word-at s w)) (w .place)
-note-extra st w old new None e k s x at h l = record { word = word-at s w; extra = k s x h; place = refl; least = λ v o. cases v (extra-back st x (word-at s w) v o); behind = omega arith }
+note-extra st w old new None e k s x at h l = record { word = word-at s w; extra = k s x h; place = refl; least = λ v o. cases v (extra-back st x (word-at s w) v o); reached = omega arith }
   where
     cases : (v : Token) → ExtraIn x v ⊎ (word-at s w ≡ v) → w .place ≤ v .place
     cases v (inl o) = absurd (keeps-few s old x v h o)
@@ -185,9 +185,9 @@ note-gone st w old (Some p) e s x at h l = record {
   extra = extra-stays st x (word-at s w) (h .word) (h .extra);
   place = h .place;
   least = λ v o. cases v (extra-back st x (word-at s w) v o);
-  behind = let b = h .behind in omega arith;
+  reached = let b = h .reached in omega arith;
 }
   where
     cases : (v : Token) → ExtraIn x v ⊎ (word-at s w ≡ v) → p ≤ v .place
     cases v (inl o) = h .least v o
-    cases v (inr q) = let same = ap (λ (y : Token). y .place) q in let b = h .behind in omega arith
+    cases v (inr q) = let same = ap (λ (y : Token). y .place) q in let b = h .reached in omega arith

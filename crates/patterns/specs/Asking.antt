@@ -45,6 +45,7 @@ worth n (d ∷ ds) = worth (10 * n + (d - 48)) ds
 
 -- the bytes are the decimal number n, leading zeros allowed
 pub record Decimal (text : List ℕ) (n : ℕ) : Type 0 where
+  pub some : 0 < length text
   pub digits : (i d : ℕ) → At text i d → Digit d
   pub value : worth 0 text ≡ n
 
@@ -55,7 +56,7 @@ Number text n = Decimal text n × (n ≤ 32767)
 abbrev pub GoodNumber : List ℕ → Type 0
 GoodNumber text = (n : ℕ) × Number text n
 
--- the question on the line s of this form answers yes
+-- the question on the line s of this form answers yes; whether words are numbers is asked of fact lines alone
 abbrev pub Yes : Form → List ℕ → Asked → Type 0
 Yes form s line-length = length s ≤ 400
 Yes form s bytes = (ts : List Token) × Tokens s ts
@@ -94,7 +95,7 @@ Turned form s q p = FirstNo form s asked q p
 abbrev pub Passes : Form → List ℕ → Type 0
 Passes form s = AllYes form s asked
 
--- a line writes one thing at most; it passes, or is turned away by one question at one place, and not both
+-- a line writes one thing at most; at most one question turns it away, at one place, and none if it passes
 pub record Line-determined (form : Form) (s : List ℕ) : Type 0 where
   pub written : (l m : Line) → Writes form s l → Writes form s m → l ≡ m
   pub turned : (q r : Question) (p t : ℕ) → Turned form s q p → Turned form s r t → (q ≡ r) × (p ≡ t)

@@ -27,8 +27,8 @@ use Rattle.patterns.specs.Machine.Context.{in-side, in-fact}
 use Rattle.patterns.specs.Machine.Draft.{at-label, at-bars, at-name, at-open, at-word, at-more, after, after-fact, done}
 use Rattle.patterns.specs.declared.state.Form as code
 use Rattle.patterns.specs.declared.state.Form.the-variants as form
-use Rattle.patterns.specs.declared.state.Part.{Part}
-use Rattle.patterns.specs.declared.state.Part.the-variants.{Body, Head, Fact}
+use Rattle.patterns.specs.declared.state.Section.{Section}
+use Rattle.patterns.specs.declared.state.Section.the-variants.{Body, Head, Fact}
 use Rattle.patterns.specs.declared.state.State.{State}
 use Rattle.patterns.specs.declared.state.State.the-variants as state
 use Rattle.patterns.specs.declared.atom.Span.{Span}
@@ -54,11 +54,11 @@ go (state.After Fact) k = by-kind k None None None None None None (Some state.Do
 go state.Done k = None
 
 -- the state of a draft
-abbrev pub part-of-side : machine.Side → Part
+abbrev pub part-of-side : machine.Side → Section
 part-of-side (body l) = Body
 part-of-side (head l b) = Head
 
-abbrev pub part-of : Context → Part
+abbrev pub part-of : Context → Section
 part-of (in-side s before) = part-of-side s
 part-of in-fact = Fact
 
@@ -158,13 +158,13 @@ both x = x .first ∷ x .second ∷ []
 abbrev pub ExtraIn : Parts → plain.Token → Type 0
 ExtraIn x w = Extra (both x) w
 
--- p is the first place of a word too many, and not behind the place at
+-- p is the first place of a word too many, and lies at or before the place at
 pub record FirstExtra (x : Parts) (at p : ℕ) : Type 0 where
   pub word : plain.Token
   pub extra : ExtraIn x word
   pub place : p ≡ word .place
   pub least : (v : plain.Token) → ExtraIn x v → p ≤ v .place
-  pub behind : p ≤ at
+  pub reached : p ≤ at
 
 -- the tables hold the parts, or a word is too many
 abbrev pub Held : List ℕ → Tables → Option ℕ → Parts → ℕ → Type 0
@@ -185,11 +185,12 @@ abbrev pub Noted : State → Span → Reader → Reader → Type 0
 Noted st w old new = (s : List ℕ) (x : Parts) (at : ℕ) → Held s (old .tables) (old .extra) x at → at ≤ w .place
     → Held s (new .tables) (new .extra) (grown st x (word-at s w)) (w .place)
 
--- the state goes on, or the token cannot stand there; nothing else changes
+-- nothing changes but the state
 pub record Same (old new : Reader) : Type 0 where
   pub tables : new .tables ≡ old .tables
   pub extra : new .extra ≡ old .extra
 
+-- the state goes on, or the token cannot stand there
 abbrev pub Advanced : Reader → Token → Reader → Result (Unit {0}) Refusal → Type 0
 Advanced old t new (Ok u) = go (old .state) (kind-of t) ≡ Some (new .state)
 Advanced old t new (Err x) = (go (old .state) (kind-of t) ≡ None) × (x .question ≡ Pattern) × (x .place ≡ place-of t)

@@ -57,7 +57,7 @@ abbrev pub Begun : Side → Span → Side → Bool → Type 0
 Begun d p e true = (a : Atom) × (atoms-of e ≡ atoms-of d ++ (a ∷ [])) × (a .predicate ≡ p) × (spans a ≡ []) × SoundAtom a × (e .count ≤ 4) × (length (e .atoms) ≡ length (d .atoms))
 Begun d p e false = (e ≡ d) × (4 ≤ d .count)
 
--- the word is pushed to the last atom, if there is one
+-- the word is pushed to the last atom
 pub record AddedLast (d : Side) (w : Span) (e : Side) (r : Bool) : Type 0 where
   pub before : List Atom
   pub old : Atom
@@ -68,5 +68,6 @@ pub record AddedLast (d : Side) (w : Span) (e : Side) (r : Bool) : Type 0 where
   pub count : e .count ≡ d .count
   pub wide : length (e .atoms) ≡ length (d .atoms)
 
+-- the word is pushed to the last atom, if there is one; a count past the table, which no reader makes, changes nothing
 abbrev pub Added : Side → Span → Side → Bool → Type 0
 Added d w e r = ((d .count ≡ 0) × (e ≡ d) × (r ≡ true)) ⊎ (((4 < d .count) × (e ≡ d)) ⊎ AddedLast d w e r)

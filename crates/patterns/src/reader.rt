@@ -4,7 +4,7 @@ ghost use Rattle.patterns.specs.Drafts.{Kept, Noted};
 ghost use Rattle.patterns.specs.declared.state.State.the-variants as state;
 use crate::atom::Side;
 use crate::atom::Span;
-use crate::state::Part;
+use crate::state::Section;
 use crate::state::State;
 
 mod feeding;
@@ -12,6 +12,7 @@ mod feeding;
 // The words of a line in their tables.
 #[derive(Clone, Copy)]
 pub struct Tables {
+    // of a fact line: of no meaning
     pub label: Span,
     pub body: Side,
     pub head: Side,
@@ -27,22 +28,22 @@ pub struct Reader {
 
 impl Tables {
     // A predicate. False if it is one too many.
-    fn begin(&mut self, part: Part, word: Span) -> bool
+    fn begin(&mut self, part: Section, word: Span) -> bool
         ensures { λ r. ⌜ Kept (state.Name part) word (now (self .entry)) (now (self .exit)) r ⌝ }
     {
         match part {
-            Part::Head => self.head.begin(word),
-            Part::Body | Part::Fact => self.body.begin(word),
+            Section::Head => self.head.begin(word),
+            Section::Body | Section::Fact => self.body.begin(word),
         }
     }
 
     // A word in brackets. False if it is one too many.
-    fn add(&mut self, part: Part, word: Span) -> bool
+    fn add(&mut self, part: Section, word: Span) -> bool
         ensures { λ r. ⌜ Kept (state.Word part) word (now (self .entry)) (now (self .exit)) r ⌝ }
     {
         match part {
-            Part::Head => self.head.add(word),
-            Part::Body | Part::Fact => self.body.add(word),
+            Section::Head => self.head.add(word),
+            Section::Body | Section::Fact => self.body.add(word),
         }
     }
 

@@ -1,4 +1,4 @@
-// Where the reader of a pattern stands: what may come next, and in which atoms.
+// Where the reader of a pattern stands.
 
 #[derive(Clone, Copy)]
 pub enum Form {
@@ -6,21 +6,23 @@ pub enum Form {
     Fact,
 }
 
+// Which atoms are being read: those of a rule's body or head, or the one of a fact.
 #[derive(Clone, Copy)]
-pub enum Part {
+pub enum Section {
     Body,
     Head,
     Fact,
 }
 
+// Named by what must come next.
 #[derive(Clone, Copy)]
 pub enum State {
     Label,
     Bars,
-    Name(Part),
-    Open(Part),
-    Word(Part),
-    More(Part),
-    After(Part),
+    Name(Section),
+    Open(Section),
+    Word(Section),
+    More(Section),
+    After(Section),
     Done,
 }

@@ -49,7 +49,7 @@ blank-shows s r d i a h l = record { state = h .state; held = weaker (r .extra) 
   where
     weaker : (x : Option ℕ) → Held s (r .tables) x (parts d) i → Held s (r .tables) x (parts d) a
     weaker None q = q
-    weaker (Some p) q = record { word = q .word; extra = q .extra; place = q .place; least = q .least; behind = let b = q .behind in omega arith }
+    weaker (Some p) q = record { word = q .word; extra = q .extra; place = q .place; least = q .least; reached = let b = q .reached in omega arith }
 
 pub along-more : (form : Form) (line m : RefT (List ℕ)) (i j : ℕ) (o : Option Token) (t : Token) (old new : Reader) → m ≡ line → o ≡ Some t
     → Along form (now line) old i → Next line i j (Ok o) → Fed old t new (Ok tt) → Along form (now m) new j

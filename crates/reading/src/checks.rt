@@ -55,7 +55,7 @@ fn check_word(token: Token) -> Result<(), Refusal>
     }
 }
 
-// The lexer cannot refuse a line whose bytes all belong to tokens, so only a long word does.
+// The lexer cannot refuse a line whose bytes all belong to tokens or are blanks, so only a long word does.
 pub fn check_words(line: &[u8]) -> Result<(), Refusal>
     ensures { λ r. ⌜ ((form : PlainForm) (ts : List PlainToken) → Tokens (now (line .entry)) ts → Answers form (now (line .entry)) word-length r) ⌝ }
 {

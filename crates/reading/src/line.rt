@@ -1,4 +1,4 @@
-// Lines that passed all their questions. A word is told by its place; its text is a part of the line.
+// Lines that passed the five questions that every line is put. A word is told by its place; its text is a part of the line.
 use patterns::atom::Atom;
 use patterns::atom::Side;
 use patterns::atom::Span;

@@ -72,7 +72,7 @@ pub record Stray (s : List ℕ) (p : ℕ) : Type 0 where
   pub before : (ts : List Token) × Between s p 0 ts
   pub here : Nothing-at s p
 
--- a line has one list of tokens, or one first stray byte, and not both
+-- a line has at most one list of tokens, at most one first stray byte, and not both
 pub record Determined (s : List ℕ) : Type 0 where
   pub tokens : (ts us : List Token) → Tokens s ts → Tokens s us → ts ≡ us
   pub stray : (p q : ℕ) → Stray s p → Stray s q → p ≡ q

@@ -14,7 +14,7 @@ fn begins_word(line: &[u8], place: usize) -> bool
     place == 0 || !is_word_byte(line[place - 1])
 }
 
-// The word that begins at `place`, or the empty part at the line's end.
+// The word that begins at `place`, or, if none begins there, the empty part at the line's end.
 pub fn word<'a>(line: &'a [u8], place: usize) -> &'a [u8]
     ensures { λ r. ⌜ WordAt (line .entry) r place ⌝ }
 {

@@ -10,7 +10,7 @@ use super::Tables;
 use crate::atom::Side;
 use crate::atom::Span;
 use crate::state::Form;
-use crate::state::Part;
+use crate::state::Section;
 use crate::state::State;
 use questions::question::Question;
 use questions::question::Refusal;
@@ -23,7 +23,7 @@ impl Reader {
         let filler = Span { place: 0, len: 0 };
         let state = match form {
             Form::Rule => State::Label,
-            Form::Fact => State::Name(Part::Fact),
+            Form::Fact => State::Name(Section::Fact),
         };
         let tables = Tables {
             label: filler,
@@ -45,21 +45,21 @@ impl Reader {
     {
         self.state = match (self.state, token) {
             (State::Label, Token::Word { .. }) => State::Bars,
-            (State::Bars, Token::Bars(_)) => State::Name(Part::Body),
+            (State::Bars, Token::Bars(_)) => State::Name(Section::Body),
             (State::Name(part), Token::Word { .. }) => State::Open(part),
             (State::Open(part), Token::Open(_)) => State::Word(part),
             (State::Word(part), Token::Word { .. }) => State::More(part),
             (State::More(part), Token::Comma(_)) => State::Word(part),
             (State::More(part), Token::Close(_)) => State::After(part),
-            (State::After(Part::Body), Token::Comma(_)) => State::Name(Part::Body),
-            (State::After(Part::Head), Token::Comma(_)) => State::Name(Part::Head),
-            (State::After(Part::Body), Token::Arrow(_)) => State::Name(Part::Head),
-            (State::After(Part::Head), Token::Stop(_)) => State::Done,
-            (State::After(Part::Fact), Token::Stop(_)) => State::Done,
-            (_, other) => {
+            (State::After(Section::Body), Token::Comma(_)) => State::Name(Section::Body),
+            (State::After(Section::Head), Token::Comma(_)) => State::Name(Section::Head),
+            (State::After(Section::Body), Token::Arrow(_)) => State::Name(Section::Head),
+            (State::After(Section::Head), Token::Stop(_)) => State::Done,
+            (State::After(Section::Fact), Token::Stop(_)) => State::Done,
+            _ => {
                 return Err(Refusal {
                     question: Question::Pattern,
-                    place: other.place(),
+                    place: token.place(),
                 });
             }
         };

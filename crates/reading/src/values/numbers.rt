@@ -16,6 +16,9 @@ const GREATEST: u32 = 32_767;
 fn decimal(text: &[u8]) -> Option<u16>
     ensures { λ r. ⌜ Cases r (GoodNumber (now (text .entry)) → ⊥) (λ n. Number (now (text .entry)) n) ⌝ }
 {
+    if text.is_empty() {
+        return None;
+    }
     let mut n: u16 = 0;
     for b in text {
         if !b.is_ascii_digit() {

@@ -19,4 +19,4 @@ loop-b-again c =
     begun-more _ _ _ _ (c .loop-b-test .taken) (c .if-not-is-ascii-digit .ensures tt .cases) (let n = c .from .ensures in let d = c .from-in-loop-b .ensures in omega arith) (c .if-next-gt-GREATEST .left) (c .loop-b .inv)
 
 pub returns : need.returns
-returns c = begun-all _ _ _ (c .loop-b-test .left) (c .loop-b .inv)
+returns c = begun-all _ _ _ (search needs) (c .loop-b-test .left) (c .loop-b .inv)

@@ -12,7 +12,7 @@ use Rattle.lists.specs.Places.{At}
 use Rattle.lists.proofs.Numbered.{at-below, at-get}
 use Rattle.lines.specs.Cutting.{NoNewline, Cut, Ends}
 use Rattle.lines.specs.Cutting.Cut.{empty, last, line}
-use Rattle.lines.proofs.Unique.{determined}
+use Rattle.lines.proofs.Unique.{cut-single}
 
 pub nothing-left : (s : List ℕ) (i : ℕ) → length s ≤ i → Cut (drop i s) []
 nothing-left s i h = empty (drop-all i s h)
@@ -43,5 +43,5 @@ whole s i e h x l =
 pub line-first : (s : List ℕ) (i e j : ℕ) (rest : List (List ℕ)) → i < length s → Ends s i e → j ≡ min (length s) (e + 1) → Cut (drop j s) rest → Cut (drop i s) (take (e - i) (drop i s) ∷ rest)
 line-first s i e j rest h x q c = ⊎-elim
     (λ l. let there : j ≡ e + 1 = omega arith in line _ (drop (e + 1) s) (no-newline s i e x) (parted s i e x l) (subst (λ (k : ℕ). Cut (drop k s) rest) there c))
-    (λ l. let none : [] ≡ rest = determined (drop j s) [] rest (nothing-left s j (omega arith)) c in subst (λ (r : List (List ℕ)). Cut (drop i s) (take (e - i) (drop i s) ∷ r)) none (whole s i e h x l))
+    (λ l. let none : [] ≡ rest = cut-single (drop j s) [] rest (nothing-left s j (omega arith)) c in subst (λ (r : List (List ℕ)). Cut (drop i s) (take (e - i) (drop i s) ∷ r)) none (whole s i e h x l))
     (cases-lt e (length s))

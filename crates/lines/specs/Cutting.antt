@@ -20,9 +20,10 @@ pub data Cut : List ℕ → List (List ℕ) → Type 0 where
   last : {s : List ℕ} → 0 < length s → NoNewline s → Cut s (s ∷ [])
   line : {s : List ℕ} {ls : List (List ℕ)} (l rest : List ℕ) → NoNewline l → s ≡ l ++ (10 ∷ rest) → Cut rest ls → Cut s (l ∷ ls)
 
--- an input has at most one list of lines
-abbrev pub Cut-determined : List ℕ → Type 0
-Cut-determined s = (xs ys : List (List ℕ)) → Cut s xs → Cut s ys → xs ≡ ys
+-- an input has one list of lines
+pub record Cut-determined (s : List ℕ) : Type 0 where
+  pub some : (ls : List (List ℕ)) × Cut s ls
+  pub one : (xs ys : List (List ℕ)) → Cut s xs → Cut s ys → xs ≡ ys
 
 -- the first newline from the place i on is at e, or there is none and e is the input's end
 pub record Ends (s : List ℕ) (i e : ℕ) : Type 0 where

@@ -1,14 +1,13 @@
 -- Handing out a line: what is cut off from a place on, and what is left behind it.
-use mathlib.Core.Path.{_≡_, refl, sym, ap, subst, _∙_}
+use mathlib.Core.Path.{_≡_, sym, subst, _∙_}
 use mathlib.Core.List.{List, [], _∷_, _++_}
 use mathlib.Core.Logic.{⊎-elim}
 use Prim.Native.Nat.{ℕ, _+_, _-_, _<_, _≤_, min}
 use native.Mathlib.Omega.{arith}
-use lib.ListN.{length, getD, take, drop, length-drop, length-take, take-append-drop}
+use lib.ListN.{length, take, drop, length-drop, length-take, take-append-drop}
 use lib.Seq.{drop-drop}
 use Rattle.std.proofs.shelf.Lists.{drop-all, drop-more, take-all, getD-take, getD-drop}
 use Rattle.std.proofs.shelf.Tests.{cases-lt}
-use Rattle.lists.specs.Places.{At}
 use Rattle.lists.proofs.Numbered.{at-below, at-get}
 use Rattle.lines.specs.Cutting.{NoNewline, Cut, Ends}
 use Rattle.lines.specs.Cutting.Cut.{empty, last, line}

@@ -1,8 +1,7 @@
 -- The reader's state and tables go along with the drafts of the pattern machine.
 use mathlib.Core.Path.{_≡_, refl, sym, ap, subst, _∙_}
 use mathlib.Core.List.{List, [], _∷_, _++_}
-use mathlib.Core.Logic.{_⊎_, inl, inr}
-use Prim.Native.Nat.{ℕ, _-_, _≤_, _<_}
+use Prim.Native.Nat.{ℕ, _-_, _≤_}
 use native.Mathlib.Omega.{arith}
 use lib.ListN.{length, take, drop}
 use denote.Ref.{RefT, now}
@@ -13,13 +12,13 @@ use Rattle.std.specs.declared.result.Result.the-variants.{Ok}
 use Rattle.tokens.specs.Tokens as plain
 use Rattle.tokens.specs.Tokens.{Kind, token-at}
 use Rattle.tokens.specs.Tokens.Kind.{word, bars, arrow, opens, closes, comma, stop}
-use Rattle.tokens.specs.Lexing.{kind-of, place-of, Is}
+use Rattle.tokens.specs.Lexing.{kind-of}
 use Rattle.tokens.specs.declared.token.Token.{Token}
 use Rattle.tokens.specs.declared.token.Token.the-variants.{Word, Bars, Arrow, Open, Close, Comma, Stop}
 use Rattle.tokens.proofs.Unique.{lies-longer}
-use Rattle.patterns.specs.Patterns.{Written, Line}
+use Rattle.patterns.specs.Patterns.{Written}
 use Rattle.patterns.specs.Patterns.Line.{rule-line, fact-line}
-use Rattle.patterns.specs.Machine.{Context, Draft, move, step, closed, atom-of}
+use Rattle.patterns.specs.Machine.{Context, Draft, move, closed, atom-of}
 use Rattle.patterns.specs.Machine.Side.{body, head}
 use Rattle.patterns.specs.Machine.Context.{in-side, in-fact}
 use Rattle.patterns.specs.Machine.Draft.{at-label, at-bars, at-name, at-open, at-word, at-more, after, after-fact, done}
@@ -29,7 +28,7 @@ use Rattle.patterns.specs.declared.reader.Tables.{Tables}
 use Rattle.patterns.specs.declared.reader.Reader.{Reader}
 use Rattle.patterns.specs.declared.state.State.{State}
 use Rattle.patterns.specs.Tables.{word-at}
-use Rattle.patterns.specs.Drafts.{go, part-of, state-of, Parts, with-atom, parts, grown, FirstExtra, Held, Shows, Noted, Same, Advanced, Fed}
+use Rattle.patterns.specs.Drafts.{go, state-of, Parts, with-atom, parts, grown, Held, Noted, Same, Advanced, Fed}
 use Rattle.patterns.proofs.Growing.{push-last}
 
 -- ---- the state of a draft goes as the draft goes
@@ -107,7 +106,7 @@ grew (done l) t k = no-draft (done l) t k
 -- ---- one token
 
 -- what is held stays so at a later place
-later : (s : List ℕ) (t : Tables) (extra : Option ℕ) (x : Parts) (at e : ℕ) → Held s t extra x at → at ≤ e → Held s t extra x e
+pub later : (s : List ℕ) (t : Tables) (extra : Option ℕ) (x : Parts) (at e : ℕ) → Held s t extra x at → at ≤ e → Held s t extra x e
 later s t None x at e h l = h
 later s t (Some p) x at e h l = record { word = h .word; extra = h .extra; place = h .place; least = h .least; reached = let b = h .reached in omega arith }
 

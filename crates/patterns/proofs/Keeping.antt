@@ -24,8 +24,8 @@ use Rattle.patterns.specs.declared.state.Section.{Section}
 use Rattle.patterns.specs.declared.state.Section.the-variants.{Body, Head, Fact}
 use Rattle.patterns.specs.declared.state.State.{State}
 use Rattle.patterns.specs.declared.state.State.the-variants as state
-use Rattle.patterns.specs.Tables.{spans, atoms-of, word-at, written, side-of, SoundAtom, SoundSide, Pushed, Begun, AddedLast, Added}
-use Rattle.patterns.specs.Drafts.{Parts, push-word, grown, both, Keeps, ExtraIn, FirstExtra, Held, Kept}
+use Rattle.patterns.specs.Tables.{spans, atoms-of, word-at, written, side-of, SoundAtom, SoundSide, Pushed, Begun, Added}
+use Rattle.patterns.specs.Drafts.{Parts, push-word, grown, both, Keeps, ExtraIn, Held, Kept}
 use Rattle.lists.proofs.Fronts.{full}
 use Rattle.lists.proofs.Mapped.{map-snoc, at-map}
 use Rattle.patterns.proofs.Growing.{push-last, name-extra, word-extra, extra-stays, extra-back}
@@ -126,20 +126,6 @@ word-second w old d false b s x k = fifth-word (both (grown (state.Word Head) x 
 
 pub word-in-second : (p : Section) (w : Span) (old : Tables) (d : Side) (r : Bool) → p ≡ Head → Added (old .head) w d r → Kept (state.Word p) w old (record { label = old .label; body = old .body; head = d }) r
 word-in-second p w old d r e b = subst (λ q. Kept (state.Word q) w old (record { label = old .label; body = old .body; head = d }) r) (sym e) (word-second w old d r b)
-
--- ---- a label, and a word where none is kept
-pub label-kept : (w : Span) (old : Tables) → Kept state.Label w old (record { label = w; body = old .body; head = old .head }) true
-label-kept w old s x k = record { label = refl; first = k .first; second = k .second; body-sound = k .body-sound; head-sound = k .head-sound }
-
-pub rest-kept : (st : State) (w : Span) (old : Tables) → (st ≡ state.Label → ⊥) → ((p : Section) → st ≡ state.Name p → ⊥) → ((p : Section) → st ≡ state.Word p → ⊥) → Kept st w old old true
-rest-kept state.Label w old a b c s x k = absurd (a refl)
-rest-kept state.Bars w old a b c s x k = k
-rest-kept (state.Name p) w old a b c s x k = absurd (b p refl)
-rest-kept (state.Open p) w old a b c s x k = k
-rest-kept (state.Word p) w old a b c s x k = absurd (c p refl)
-rest-kept (state.More p) w old a b c s x k = k
-rest-kept (state.After p) w old a b c s x k = k
-rest-kept state.Done w old a b c s x k = k
 
 -- ---- what the tables hold is not too many
 

@@ -8,9 +8,10 @@ use Rattle.std.specs.declared.option.Option.{Option}
 use Rattle.std.specs.declared.option.Option.the-variants.{Some, None}
 use Rattle.tokens.specs.Tokens.{Kind, Token}
 use Rattle.tokens.specs.Tokens.Kind.{word, bars, arrow, opens, closes, comma, stop}
-use Rattle.patterns.specs.Patterns.{Written, Line, Form, Is, Bracketed, OneAtom, Atoms, Label, Follow, Completes}
+use Rattle.patterns.specs.Patterns.{Written, Line, Is, Bracketed, OneAtom, Atoms, Follow, Completes}
+use Rattle.patterns.specs.declared.state.Form.{Form}
 use Rattle.patterns.specs.Patterns.Line.{rule-line, fact-line}
-use Rattle.patterns.specs.Patterns.Form.{of-rule, of-fact}
+use Rattle.patterns.specs.declared.state.Form.the-variants as forms
 use Rattle.patterns.specs.Machine.{Side, Context, Draft, start, atom-of, closed, by-kind, move, step, and-then, run, Machine-exact}
 use Rattle.patterns.specs.Machine.Side.{body, head}
 use Rattle.patterns.specs.Machine.Context.{in-side, in-fact}
@@ -52,16 +53,16 @@ atoms-run s before (a ∷ b ∷ bs) ts rest (z, more, q, h, k) =
     ∙ ap (λ (x : List Written). run (after s x) rest) (append-assoc before (a ∷ []) (b ∷ bs))
 
 pub follows-run : (form : Form) (ts : List Token) (l : Line) → Follow form ts l → run (start form) ts ≡ Some (done l)
-follows-run of-rule ts (rule-line l b h) (xs, y, ys, z, (o, w, q, e), bs, iy, hs, iz) =
+follows-run forms.Rule ts (rule-line l b h) (xs, y, ys, z, (o, w, q, e), bs, iy, hs, iz) =
     ap (run at-label) e ∙ takes at-label (at-bars l) l (o ∷ xs) word w refl
     ∙ takes (at-bars l) (at-name (in-side (body l) [])) o xs bars q refl
     ∙ atoms-run (body l) [] b xs (y ∷ ys) bs
     ∙ takes (after (body l) b) (at-name (in-side (head l b) [])) y ys arrow iy refl
     ∙ atoms-run (head l b) [] h ys (z ∷ []) hs
     ∙ takes (after (head l b) h) (done (rule-line l b h)) z [] stop iz refl
-follows-run of-rule ts (fact-line a) f = absurd f
-follows-run of-fact ts (rule-line l b h) f = absurd f
-follows-run of-fact ts (fact-line a) (z, h, iz) = atom-run in-fact a ts (z ∷ []) h ∙ takes (after-fact a) (done (fact-line a)) z [] stop iz refl
+follows-run forms.Rule ts (fact-line a) f = absurd f
+follows-run forms.Fact ts (rule-line l b h) f = absurd f
+follows-run forms.Fact ts (fact-line a) (z, h, iz) = atom-run in-fact a ts (z ∷ []) h ∙ takes (after-fact a) (done (fact-line a)) z [] stop iz refl
 
 -- ---- what is accepted follows the pattern: what each draft still owes
 
@@ -86,7 +87,7 @@ abbrev Begun : Context → List Token → Line → Type 0
 Begun c ts m = (a : Written) × (rest : List Token) × OneAtom a ts rest × Closes c a rest m
 
 abbrev Owed : Draft → List Token → Line → Type 0
-Owed at-label ts m = Follow of-rule ts m
+Owed at-label ts m = Follow forms.Rule ts m
 Owed (at-bars l) ts m = (z : Token) × (xs : List Token) × Is bars z × (ts ≡ z ∷ xs) × Named (body l) [] xs m
 Owed (at-name c) ts m = Begun c ts m
 Owed (at-open c p) ts m = (z : Token) × (xs : List Token) × Is opens z × (ts ≡ z ∷ xs) × Filled c p [] xs m
@@ -123,9 +124,9 @@ headed l b t ts m q g =
     let (h, rest, k, (z, iz, e, same)) = named (head l b) [] ts m g in
     (t, ts, h, z, q, refl, subst (λ x. Atoms h ts x) e k, iz, same)
 
-labelled : (l : Token) (ts : List Token) (m : Line) → Is word l → Owed (at-bars l) ts m → Follow of-rule (l ∷ ts) m
+labelled : (l : Token) (ts : List Token) (m : Line) → Is word l → Owed (at-bars l) ts m → Follow forms.Rule (l ∷ ts) m
 labelled l ts m w (o, xs, q, e, (b, rest, k, (y, ys, h, z, iy, f, g, iz, same))) =
-    subst (λ x. Follow of-rule (l ∷ ts) x) same (xs, y, ys, z, (o, w, q, ap (λ (x : List Token). l ∷ x) e), subst (λ x. Atoms b xs x) f k, iy, g, iz)
+    subst (λ x. Follow forms.Rule (l ∷ ts) x) same (xs, y, ys, z, (o, w, q, ap (λ (x : List Token). l ∷ x) e), subst (λ x. Atoms b xs x) f k, iy, g, iz)
 
 stopped : (a : List Token) (t : Token) → a ≡ [] → t ∷ a ≡ t ∷ []
 stopped a t e = ap (λ (x : List Token). t ∷ x) e
@@ -171,11 +172,11 @@ owed [] d m h = ended d m h
 owed (t ∷ ts) d m h = one t ts d m (λ e k. owed ts e m k) refl h
 
 pub run-follows : (form : Form) (ts : List Token) (l : Line) → run (start form) ts ≡ Some (done l) → Follow form ts l
-run-follows of-rule ts l h = owed ts at-label l h
-run-follows of-fact ts l h = fact (owed ts (at-name in-fact) l h)
+run-follows forms.Rule ts l h = owed ts at-label l h
+run-follows forms.Fact ts l h = fact (owed ts (at-name in-fact) l h)
   where
-    fact : Begun in-fact ts l → Follow of-fact ts l
-    fact (a, rest, k, (z, q, e, same)) = subst (λ x. Follow of-fact ts x) same (z, subst (λ x. OneAtom a ts x) e k, q)
+    fact : Begun in-fact ts l → Follow forms.Fact ts l
+    fact (a, rest, k, (z, q, e, same)) = subst (λ x. Follow forms.Fact ts x) same (z, subst (λ x. OneAtom a ts x) e k, q)
 
 -- ---- every draft can be completed
 

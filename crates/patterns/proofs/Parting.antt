@@ -1,24 +1,24 @@
 -- A question on a line answers one thing, so a line has one outcome.
-use mathlib.Core.Path.{_≡_, refl, sym, ap, subst, _∙_}
+use mathlib.Core.Path.{_≡_, sym, ap, subst, _∙_}
 use mathlib.Core.List.{List, [], _∷_}
-use mathlib.Core.Logic.{_⊎_, inl, inr}
-use Prim.Native.Nat.{ℕ, _<_, _≤_}
+use mathlib.Core.Logic.{inl, inr}
+use Prim.Native.Nat.{ℕ, _≤_}
 use native.Mathlib.Omega.{arith}
-use lib.ListN.{length}
 use Rattle.lists.specs.Places.{At, First}
 use Rattle.lists.proofs.Numbered.{first-single}
-use Rattle.tokens.specs.Tokens.{Token, Tokens}
+use Rattle.tokens.specs.Tokens.{Token}
 use Rattle.tokens.proofs.Unique.{tokens-single, stray-or-tokens, stray-single}
-use Rattle.patterns.specs.Patterns.{Written, Line, Form, Writes, Follow, Breaks, TooMany}
+use Rattle.patterns.specs.Patterns.{Written, Line, Writes, Breaks, TooMany}
+use Rattle.patterns.specs.declared.state.Form.{Form}
 use Rattle.patterns.specs.Patterns.Line.{fact-line}
-use Rattle.patterns.specs.Patterns.Form.{of-fact}
-use Rattle.patterns.specs.Asking.{Asked, question-of, LongWord, GoodNumber, Yes, No, FirstNo, AllYes, asked, Line-determined}
+use Rattle.patterns.specs.declared.state.Form.the-variants as forms
+use Rattle.patterns.specs.Asking.{Asked, LongWord, GoodNumber, Yes, No, FirstNo, AllYes, asked, Line-determined}
 use Rattle.patterns.specs.Asking.Asked.{line-length, bytes, word-length, pattern, counts, numbers}
 use Rattle.patterns.proofs.Shapes.{writes-single, breaks-or-follows, breaks-single}
 use Rattle.questions.specs.declared.question.Question.{Question}
 
-fact-single : (s : List ℕ) (a b : Written) → Writes of-fact s (fact-line a) → Writes of-fact s (fact-line b) → a ≡ b
-fact-single s a b p q = let e = writes-single of-fact s (fact-line a) (fact-line b) p q in cc
+fact-single : (s : List ℕ) (a b : Written) → Writes forms.Fact s (fact-line a) → Writes forms.Fact s (fact-line b) → a ≡ b
+fact-single s a b p q = let e = writes-single forms.Fact s (fact-line a) (fact-line b) p q in cc
 
 least : (l m : Line) (w v : Token) → l ≡ m → TooMany l w → ((x : Token) → TooMany m x → v .place ≤ x .place) → v .place ≤ w .place
 least l m w v e t h = h w (subst (λ x. TooMany x w) e t)

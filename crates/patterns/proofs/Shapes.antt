@@ -4,15 +4,16 @@ use mathlib.Core.List.{List, [], _∷_, _++_, append-assoc}
 use mathlib.Core.Logic.{_⊎_, inl, inr}
 use Prim.Native.Nat.{ℕ, zero, suc, _<_, _≤_}
 use native.Mathlib.Omega.{arith}
-use lib.ListN.{length, take, drop, take-append-drop}
+use lib.ListN.{take, drop, take-append-drop}
 use Rattle.std.specs.declared.option.Option.{Option}
-use Rattle.std.specs.declared.option.Option.the-variants.{Some, None}
+use Rattle.std.specs.declared.option.Option.the-variants.{Some}
 use Rattle.lists.specs.Places.{At}
 use Rattle.lists.proofs.Numbered.{order, at-same}
-use Rattle.tokens.specs.Tokens.{Token, Tokens}
+use Rattle.tokens.specs.Tokens.{Token}
 use Rattle.tokens.proofs.Unique.{tokens-single}
-use Rattle.patterns.specs.Patterns.{Line, Form, Follow, Writes, Completes, Misplaced, Early, Breaks}
-use Rattle.patterns.specs.Machine.{Draft, start, run}
+use Rattle.patterns.specs.Patterns.{Line, Follow, Writes, Completes, Misplaced, Breaks}
+use Rattle.patterns.specs.declared.state.Form.{Form}
+use Rattle.patterns.specs.Machine.{Draft}
 use Rattle.patterns.specs.Machine.Draft.{done}
 use Rattle.patterns.proofs.Machines.{follows-run}
 

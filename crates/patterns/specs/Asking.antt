@@ -7,9 +7,10 @@ use lib.ListN.{length}
 use Rattle.lists.specs.Places.{At, First}
 use Rattle.tokens.specs.Tokens.{Token, Tokens, Stray}
 use Rattle.tokens.specs.Tokens.Kind.{word}
-use Rattle.patterns.specs.Patterns.{Written, Line, Form, Is, Writes, Breaks, TooMany}
+use Rattle.patterns.specs.Patterns.{Written, Line, Is, Writes, Breaks, TooMany}
+use Rattle.patterns.specs.declared.state.Form.{Form}
 use Rattle.patterns.specs.Patterns.Line.{fact-line}
-use Rattle.patterns.specs.Patterns.Form.{of-fact}
+use Rattle.patterns.specs.declared.state.Form.the-variants as forms
 use Rattle.questions.specs.declared.question.Question.{Question}
 use Rattle.questions.specs.declared.question.Question.the-variants.{LineLength, Bytes, WordLength, Pattern, Counts, Numbers}
 
@@ -63,7 +64,7 @@ Yes form s bytes = (ts : List Token) × Tokens s ts
 Yes form s word-length = (ts : List Token) × Tokens s ts × ((k : ℕ) (t : Token) → At ts k t → LongWord t → ⊥)
 Yes form s pattern = (l : Line) × Writes form s l
 Yes form s counts = (l : Line) × Writes form s l × ((w : Token) → TooMany l w → ⊥)
-Yes form s numbers = (a : Written) × Writes of-fact s (fact-line a) × ((k : ℕ) (w : Token) → At (a .words) k w → GoodNumber (w .text))
+Yes form s numbers = (a : Written) × Writes forms.Fact s (fact-line a) × ((k : ℕ) (w : Token) → At (a .words) k w → GoodNumber (w .text))
 
 -- the question answers no, at the place p
 abbrev pub No : Form → List ℕ → Asked → ℕ → Type 0
@@ -72,7 +73,7 @@ No form s bytes p = Stray s p
 No form s word-length p = (ts : List Token) × (k : ℕ) × (t : Token) × Tokens s ts × First LongWord ts k t × (p ≡ t .place)
 No form s pattern p = (ts : List Token) × Tokens s ts × Breaks form s ts p
 No form s counts p = (l : Line) × (w : Token) × Writes form s l × TooMany l w × ((v : Token) → TooMany l v → w .place ≤ v .place) × (p ≡ w .place)
-No form s numbers p = (a : Written) × (k : ℕ) × (w : Token) × Writes of-fact s (fact-line a) × First (λ v. GoodNumber (v .text) → ⊥) (a .words) k w × (p ≡ w .place)
+No form s numbers p = (a : Written) × (k : ℕ) × (w : Token) × Writes forms.Fact s (fact-line a) × First (λ v. GoodNumber (v .text) → ⊥) (a .words) k w × (p ≡ w .place)
 
 -- of these questions, q is the first that answers no, at the place p
 abbrev pub FirstNo : Form → List ℕ → List Asked → Question → ℕ → Type 0

@@ -1,6 +1,6 @@
 -- How the reader's state and tables stand for a draft of the pattern machine.
 use mathlib.Core.Path.{_≡_}
-use mathlib.Core.Bool.{Bool, true, false}
+use mathlib.Core.Bool.{Bool}
 use mathlib.Core.List.{List, [], _∷_, _++_}
 use mathlib.Core.Logic.{_⊎_}
 use Prim.Native.Nat.{ℕ, _≤_}
@@ -17,16 +17,14 @@ use Rattle.tokens.specs.Tokens as plain
 use Rattle.tokens.specs.Tokens.{Kind, token-at}
 use Rattle.tokens.specs.Lexing.{kind-of, place-of, Is}
 use Rattle.tokens.specs.declared.token.Token.{Token}
-use Rattle.patterns.specs.Patterns.{Written, Line, Form, Extra}
+use Rattle.patterns.specs.Patterns.{Written, Line, Extra}
 use Rattle.patterns.specs.Patterns.Line.{rule-line, fact-line}
-use Rattle.patterns.specs.Patterns.Form.{of-rule, of-fact}
+use Rattle.patterns.specs.declared.state.Form.the-variants as forms
 use Rattle.patterns.specs.Machine as machine
 use Rattle.patterns.specs.Machine.{Context, Draft, by-kind, atom-of, step}
 use Rattle.patterns.specs.Machine.Side.{body, head}
 use Rattle.patterns.specs.Machine.Context.{in-side, in-fact}
 use Rattle.patterns.specs.Machine.Draft.{at-label, at-bars, at-name, at-open, at-word, at-more, after, after-fact, done}
-use Rattle.patterns.specs.declared.state.Form as code
-use Rattle.patterns.specs.declared.state.Form.the-variants as form
 use Rattle.patterns.specs.declared.state.Section.{Section}
 use Rattle.patterns.specs.declared.state.Section.the-variants.{Body, Head, Fact}
 use Rattle.patterns.specs.declared.state.State.{State}
@@ -35,10 +33,6 @@ use Rattle.patterns.specs.declared.atom.Span.{Span}
 use Rattle.patterns.specs.declared.reader.Tables.{Tables}
 use Rattle.patterns.specs.declared.reader.Reader.{Reader}
 use Rattle.patterns.specs.Tables.{word-at, side-of, SoundSide}
-
-abbrev pub form-of : code.Form → Form
-form-of form.Rule = of-rule
-form-of form.Fact = of-fact
 
 -- the state after a token of kind k; the columns are word, bars, arrow, opens, closes, comma, stop
 abbrev pub go : State → Kind → Option State
@@ -54,22 +48,22 @@ go (state.After Fact) k = by-kind k None None None None None None (Some state.Do
 go state.Done k = None
 
 -- the state of a draft
-abbrev pub part-of-side : machine.Side → Section
-part-of-side (body l) = Body
-part-of-side (head l b) = Head
+abbrev pub section-of-side : machine.Side → Section
+section-of-side (body l) = Body
+section-of-side (head l b) = Head
 
-abbrev pub part-of : Context → Section
-part-of (in-side s before) = part-of-side s
-part-of in-fact = Fact
+abbrev pub section-of : Context → Section
+section-of (in-side s before) = section-of-side s
+section-of in-fact = Fact
 
 abbrev pub state-of : Draft → State
 state-of at-label = state.Label
 state-of (at-bars l) = state.Bars
-state-of (at-name c) = state.Name (part-of c)
-state-of (at-open c p) = state.Open (part-of c)
-state-of (at-word c p ws) = state.Word (part-of c)
-state-of (at-more c p ws) = state.More (part-of c)
-state-of (after s as-read) = state.After (part-of-side s)
+state-of (at-name c) = state.Name (section-of c)
+state-of (at-open c p) = state.Open (section-of c)
+state-of (at-word c p ws) = state.Word (section-of c)
+state-of (at-more c p ws) = state.More (section-of c)
+state-of (after s as-read) = state.After (section-of-side s)
 state-of (after-fact a) = state.After Fact
 state-of (done l) = state.Done
 

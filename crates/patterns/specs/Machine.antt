@@ -6,9 +6,10 @@ use Rattle.std.specs.declared.option.Option.{Option}
 use Rattle.std.specs.declared.option.Option.the-variants.{Some, None}
 use Rattle.tokens.specs.Tokens.{Kind, Token}
 use Rattle.tokens.specs.Tokens.Kind.{word, bars, arrow, opens, closes, comma, stop}
-use Rattle.patterns.specs.Patterns.{Written, Line, Form, Follow, Completes}
+use Rattle.patterns.specs.Patterns.{Written, Line, Follow, Completes}
+use Rattle.patterns.specs.declared.state.Form.{Form}
 use Rattle.patterns.specs.Patterns.Line.{rule-line, fact-line}
-use Rattle.patterns.specs.Patterns.Form.{of-rule, of-fact}
+use Rattle.patterns.specs.declared.state.Form.the-variants as forms
 
 -- the side of a rule that is being read, and what came before it
 pub data Side : Type 0 where
@@ -33,8 +34,8 @@ pub data Draft : Type 0 where
   done : (l : Line) → Draft
 
 abbrev pub start : Form → Draft
-start of-rule = at-label
-start of-fact = at-name in-fact
+start forms.Rule = at-label
+start forms.Fact = at-name in-fact
 
 abbrev pub atom-of : Token → List Token → Written
 atom-of p ws = record { predicate = p; words = ws }

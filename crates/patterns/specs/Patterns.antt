@@ -7,6 +7,8 @@ use lib.ListN.{length, take}
 use Rattle.lists.specs.Places.{At}
 use Rattle.tokens.specs.Tokens.{Kind, Token, Tokens}
 use Rattle.tokens.specs.Tokens.Kind.{word, bars, arrow, opens, closes, comma, stop}
+use Rattle.patterns.specs.declared.state.Form.{Form}
+use Rattle.patterns.specs.declared.state.Form.the-variants as forms
 
 -- an atom as it is written: a predicate and the words in its brackets
 pub record Written : Type 0 where
@@ -17,11 +19,6 @@ pub record Written : Type 0 where
 pub data Line : Type 0 where
   rule-line : (label : Token) (body head : List Written) → Line
   fact-line : (atom : Written) → Line
-
--- the two forms of lines
-pub data Form : Type 0 where
-  of-rule : Form
-  of-fact : Form
 
 abbrev pub Is : Kind → Token → Type 0
 Is k t = t .kind ≡ k
@@ -48,11 +45,11 @@ Label label ts rest = (z : Token) × Is word label × Is bars z × (ts ≡ label
 
 -- the tokens follow the pattern of the form, and write the line
 abbrev pub Follow : Form → List Token → Line → Type 0
-Follow of-rule ts (rule-line label body head) =
+Follow forms.Rule ts (rule-line label body head) =
     (xs : List Token) × (y : Token) × (ys : List Token) × (z : Token) × Label label ts xs × Atoms body xs (y ∷ ys) × Is arrow y × Atoms head ys (z ∷ []) × Is stop z
-Follow of-rule ts (fact-line atom) = ⊥
-Follow of-fact ts (rule-line label body head) = ⊥
-Follow of-fact ts (fact-line atom) = (z : Token) × OneAtom atom ts (z ∷ []) × Is stop z
+Follow forms.Rule ts (fact-line atom) = ⊥
+Follow forms.Fact ts (rule-line label body head) = ⊥
+Follow forms.Fact ts (fact-line atom) = (z : Token) × OneAtom atom ts (z ∷ []) × Is stop z
 
 -- the line of bytes has this form and writes l
 abbrev pub Writes : Form → List ℕ → Line → Type 0

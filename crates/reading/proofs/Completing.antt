@@ -1,8 +1,8 @@
 -- Going along a line token by token, through the pattern machine, to its end.
 use mathlib.Core.Path.{_≡_, refl, sym, ap, subst, _∙_}
 use mathlib.Core.List.{List, [], _∷_, _++_}
-use mathlib.Core.Logic.{_⊎_, inl, inr}
-use Prim.Native.Nat.{ℕ, zero, suc, _+_, _<_, _≤_}
+use mathlib.Core.Logic.{inl, inr}
+use Prim.Native.Nat.{ℕ, zero, suc, _+_, _≤_}
 use native.Mathlib.Omega.{arith}
 use lib.ListN.{length, take}
 use denote.Ref.{RefT, now}
@@ -11,30 +11,31 @@ use Rattle.std.specs.declared.option.Option.the-variants.{Some, None}
 use Rattle.std.specs.declared.result.Result.{Result}
 use Rattle.std.specs.declared.result.Result.the-variants.{Ok, Err}
 use Rattle.questions.specs.declared.question.Refusal.{Refusal}
-use Rattle.questions.specs.declared.question.Question.the-variants.{Pattern, Counts}
+use Rattle.questions.specs.declared.question.Question.the-variants.{Pattern}
 use Rattle.lists.specs.Places.{At}
 use Rattle.lists.proofs.Numbered.{at-next, take-front}
 use Rattle.tokens.specs.Tokens as plain
 use Rattle.tokens.specs.Tokens.{token-at, Between, Tokens}
 use Rattle.tokens.specs.Tokens.Between.{none}
-use Rattle.tokens.specs.Lexing.{kind-of, Is, Blanks, Next}
+use Rattle.tokens.specs.Lexing.{kind-of, Next}
 use Rattle.tokens.specs.declared.token.Token.{Token}
 use Rattle.tokens.proofs.Unique.{stray-or-tokens}
 use Rattle.tokens.proofs.Steps.{between-blanks, between-snoc, next-token, stray-here}
-use Rattle.patterns.specs.Patterns.{Line, Form, Follow, Writes, Completes, Misplaced, Early, TooMany}
+use Rattle.patterns.specs.Patterns.{Line, Follow, Writes, Completes, TooMany}
+use Rattle.patterns.specs.declared.state.Form.{Form}
 use Rattle.patterns.specs.Patterns.Line.{rule-line, fact-line}
-use Rattle.patterns.specs.Machine.{Draft, start, run, step}
+use Rattle.patterns.specs.Machine.{Draft, start, run}
 use Rattle.patterns.specs.Machine.Draft.{at-label, at-bars, at-name, at-open, at-word, at-more, after, after-fact, done}
 use Rattle.patterns.proofs.Machines as machines
 use Rattle.patterns.proofs.Machines.{run-follows, follows-run, run-completes, completes-run, run-snoc, run-stuck, some-same}
-use Rattle.patterns.specs.Asking.{Yes, No}
-use Rattle.patterns.specs.Asking.Asked.{pattern, counts}
-use Rattle.patterns.specs.declared.state.State.{State}
+use Rattle.patterns.specs.Asking.{No}
+use Rattle.patterns.specs.Asking.Asked.{pattern}
 use Rattle.patterns.specs.declared.state.State.the-variants as state
 use Rattle.patterns.specs.declared.reader.Tables.{Tables}
 use Rattle.patterns.specs.declared.reader.Reader.{Reader}
 use Rattle.patterns.specs.Drafts.{state-of, line-parts, parts, Keeps, ExtraIn, FirstExtra, Held, Shows, Fed, Finished}
 use Rattle.reading.specs.Lines.{Spells, Patterned}
+use Rattle.patterns.proofs.Feeding.{later}
 use Rattle.patterns.proofs.Keeping.{keeps-few}
 
 -- the reader stands for what lies before the place at
@@ -45,11 +46,7 @@ pub along-start : (form : Form) (s : List ℕ) (r : Reader) → Shows s r (start
 along-start form s r h = ([], start form, none refl, refl, h)
 
 blank-shows : (s : List ℕ) (r : Reader) (d : Draft) (i a : ℕ) → Shows s r d i → i ≤ a → Shows s r d a
-blank-shows s r d i a h l = record { state = h .state; held = weaker (r .extra) (h .held) }
-  where
-    weaker : (x : Option ℕ) → Held s (r .tables) x (parts d) i → Held s (r .tables) x (parts d) a
-    weaker None q = q
-    weaker (Some p) q = record { word = q .word; extra = q .extra; place = q .place; least = q .least; reached = let b = q .reached in omega arith }
+blank-shows s r d i a h l = record { state = h .state; held = later s (r .tables) (r .extra) (parts d) i a (h .held) l }
 
 pub along-more : (form : Form) (line m : RefT (List ℕ)) (i j : ℕ) (o : Option Token) (t : Token) (old new : Reader) → m ≡ line → o ≡ Some t
     → Along form (now line) old i → Next line i j (Ok o) → Fed old t new (Ok tt) → Along form (now m) new j

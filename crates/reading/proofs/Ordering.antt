@@ -1,5 +1,5 @@
 -- The questions on a line in their order, and what its tables write.
-use mathlib.Core.Path.{_≡_, refl, sym, ap, subst, _∙_}
+use mathlib.Core.Path.{_≡_, sym, ap, subst, _∙_}
 use mathlib.Core.List.{List, [], _∷_, map}
 use mathlib.Core.Logic.{inl, inr}
 use Prim.Native.Nat.{ℕ}
@@ -9,9 +9,10 @@ use Rattle.std.specs.declared.result.Result.{Result}
 use Rattle.std.specs.declared.result.Result.the-variants.{Ok, Err}
 use Rattle.questions.specs.declared.question.Refusal.{Refusal}
 use Rattle.tokens.specs.Tokens.{Token}
-use Rattle.patterns.specs.Patterns.{Written, Form, Writes}
+use Rattle.patterns.specs.Patterns.{Written, Writes}
+use Rattle.patterns.specs.declared.state.Form.{Form}
 use Rattle.patterns.specs.Patterns.Line.{rule-line, fact-line}
-use Rattle.patterns.specs.Patterns.Form.{of-rule, of-fact}
+use Rattle.patterns.specs.declared.state.Form.the-variants as forms
 use Rattle.patterns.specs.Asking.{Yes, Turned}
 use Rattle.patterns.specs.Asking.Asked.{line-length, bytes, word-length}
 use Rattle.patterns.specs.declared.reader.Tables.{Tables}
@@ -35,17 +36,17 @@ whole-read form s (Err e) a b c (inr (y, n, q)) = inr (a, inr (b, inr (c, inr (y
 
 -- ---- what the tables of a line that is read write
 
-pub rule-written : (s : List ℕ) (t : Tables) → Spells of-rule s t → Writes of-rule s (rule-line (word-at s (t .label)) (side-of s (t .body)) (side-of s (t .head)))
+pub rule-written : (s : List ℕ) (t : Tables) → Spells forms.Rule s t → Writes forms.Rule s (rule-line (word-at s (t .label)) (side-of s (t .body)) (side-of s (t .head)))
 rule-written s t (rule-line a b h, w, k, _) =
     let same : rule-line (word-at s (t .label)) (side-of s (t .body)) (side-of s (t .head)) ≡ rule-line a b h =
     ap (λ (x : Token). rule-line x (side-of s (t .body)) (side-of s (t .head))) (k .label) ∙ ap (λ (x : List Written). rule-line a x (side-of s (t .head))) (k .first) ∙ ap (λ (x : List Written). rule-line a b x) (k .second) in
-    subst (λ x. Writes of-rule s x) (sym same) w
+    subst (λ x. Writes forms.Rule s x) (sym same) w
 rule-written s t (fact-line a, (ts, _, f), k, _) = absurd f
 
 one-atom : (s : List ℕ) (xs : List Atom) (a : Written) (d : Atom) → map (written s) xs ≡ a ∷ [] → written s (getD xs 0 d) ≡ a
 one-atom s [] a d e = absurd (let z : _≡_ {A = ℕ} 0 1 = cc in omega arith)
 one-atom s (x ∷ xs) a d e = cc
 
-pub fact-written : (s : List ℕ) (t : Tables) (xs : List Atom) (d : Atom) → xs ≡ atoms-of (t .body) → Spells of-fact s t → Writes of-fact s (fact-line (written s (getD xs 0 d)))
+pub fact-written : (s : List ℕ) (t : Tables) (xs : List Atom) (d : Atom) → xs ≡ atoms-of (t .body) → Spells forms.Fact s t → Writes forms.Fact s (fact-line (written s (getD xs 0 d)))
 fact-written s t xs d e (rule-line a b h, (ts, _, f), k, _) = absurd f
-fact-written s t xs d e (fact-line a, w, k, _) = subst (λ x. Writes of-fact s (fact-line x)) (sym (one-atom s xs a d (ap (map (written s)) e ∙ k .first))) w
+fact-written s t xs d e (fact-line a, w, k, _) = subst (λ x. Writes forms.Fact s (fact-line x)) (sym (one-atom s xs a d (ap (map (written s)) e ∙ k .first))) w

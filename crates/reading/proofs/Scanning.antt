@@ -1,16 +1,16 @@
 -- Going along a line token by token, in search of a long word.
-use mathlib.Core.Path.{_≡_, refl, sym, ap, subst, _∙_}
+use mathlib.Core.Path.{_≡_, refl, sym, subst, _∙_}
 use mathlib.Core.List.{List, [], _∷_, _++_}
 use mathlib.Core.Logic.{_⊎_, inl, inr}
 use Prim.Native.Nat.{ℕ, _<_}
 use native.Mathlib.Omega.{arith}
-use lib.ListN.{length, take, drop}
+use lib.ListN.{length}
 use denote.Ref.{RefT, now}
 use Rattle.std.specs.declared.option.Option.{Option}
 use Rattle.std.specs.declared.option.Option.the-variants.{Some, None}
 use Rattle.std.specs.declared.result.Result.the-variants.{Ok, Err}
 use Rattle.questions.specs.declared.question.Refusal.{Refusal}
-use Rattle.lists.specs.Places.{At, First}
+use Rattle.lists.specs.Places.{At}
 use Rattle.lists.proofs.Numbered.{at-front, at-next, at-snoc}
 use Rattle.tokens.specs.Tokens as plain
 use Rattle.tokens.specs.Tokens.{Kind, token-at, Between, Tokens}
@@ -18,9 +18,9 @@ use Rattle.tokens.specs.Tokens.Between.{none}
 use Rattle.tokens.specs.Lexing.{kind-of, place-of, Is, Next}
 use Rattle.tokens.specs.declared.token.Token.{Token}
 use Rattle.tokens.specs.declared.token.Token.the-variants.{Word, Bars, Arrow, Open, Close, Comma, Stop}
-use Rattle.tokens.proofs.Unique.{lies-longer, stray-or-tokens}
+use Rattle.tokens.proofs.Unique.{stray-or-tokens}
 use Rattle.tokens.proofs.Steps.{between-blanks, between-snoc, next-token, stray-here}
-use Rattle.patterns.specs.Patterns.{Form}
+use Rattle.patterns.specs.declared.state.Form.{Form}
 use Rattle.patterns.specs.Asking.{LongWord, Yes, No}
 use Rattle.patterns.specs.Asking.Asked.{word-length}
 use Rattle.reading.specs.Lines.{Long}

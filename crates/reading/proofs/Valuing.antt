@@ -1,10 +1,10 @@
 -- The values of a fact line, word by word.
-use mathlib.Core.Path.{_≡_, refl, sym, ap, subst, _∙_}
+use mathlib.Core.Path.{_≡_, sym, ap, subst, _∙_}
 use mathlib.Core.List.{List, [], _∷_, _++_, map}
 use Prim.Native.Nat.{ℕ, _+_, _<_, _≤_}
 use native.Mathlib.Omega.{arith}
-use lib.ListN.{length, take, drop, getD}
-use denote.Ref.{RefT, now}
+use lib.ListN.{length, take, getD}
+use denote.Ref.{now}
 use Rattle.std.proofs.shelf.Lists.{take-more, take-all}
 use Rattle.std.specs.declared.result.Result.the-variants.{Ok, Err}
 use Rattle.questions.specs.declared.question.Refusal.{Refusal}
@@ -27,9 +27,6 @@ Means w n = Number (w .text) n
 pub record Front (s : List ℕ) (ws : List Span) (i : ℕ) (v : Values) : Type 0 where
   pub count : v .count ≡ i
   pub pairs : Pairwise Means (map (word-at s) (take i ws)) (values-of v)
-
-pub front-none : (s : List ℕ) (ws : List Span) (v : Values) → v .count ≡ 0 → Front s ws 0 v
-front-none s ws v e = record { count = e; pairs = subst (λ (k : ℕ). Pairwise Means [] (take k (v .table))) (sym e) tt }
 
 pub front-more : (s : List ℕ) (ws : List Span) (i : ℕ) (d : Span) (v u : Values) (n : ℕ) → i < length ws → Front s ws i v → Number (word-at s (getD ws i d) .text) n → u .count ≡ v .count + 1 → values-of u ≡ values-of v ++ (n ∷ []) → Front s ws (i + 1) u
 front-more s ws i d v u n l f h c e = record {

@@ -12,9 +12,10 @@ use Rattle.questions.specs.declared.question.Question.the-variants.{WordLength,
 use Rattle.tokens.specs.Lexing.{place-of}
 use Rattle.tokens.specs.declared.token.Token.{Token}
 use Rattle.tokens.specs.declared.token.Token.the-variants.{Word, Bars, Arrow, Open, Close, Comma, Stop}
-use Rattle.patterns.specs.Patterns.{Line, Form, Writes}
+use Rattle.patterns.specs.Patterns.{Line, Writes}
+use Rattle.patterns.specs.declared.state.Form.{Form}
 use Rattle.patterns.specs.Patterns.Line.{rule-line, fact-line}
-use Rattle.patterns.specs.Patterns.Form.{of-rule, of-fact}
+use Rattle.patterns.specs.declared.state.Form.the-variants as forms
 use Rattle.patterns.specs.Asking.{Asked, question-of, Yes, No, Turned, Passes}
 use Rattle.patterns.specs.Asking.Asked.{pattern, counts}
 use Rattle.patterns.specs.declared.reader.Tables.{Tables}
@@ -65,9 +66,9 @@ fact-of f = fact-line (written (now (f .line)) (f .atom))
 
 -- the line passes its questions and is kept as it is written, borrowing the caller's bytes; or its first no turns it away
 abbrev pub ReadRule : RefT (List ℕ) → Result RuleLine Refusal → Type 0
-ReadRule line (Ok r) = (r .line ≡ line) × Passes of-rule (now line) × Writes of-rule (now line) (rule-of r)
-ReadRule line (Err e) = Turned of-rule (now line) (e .question) (e .place)
+ReadRule line (Ok r) = (r .line ≡ line) × Passes forms.Rule (now line) × Writes forms.Rule (now line) (rule-of r)
+ReadRule line (Err e) = Turned forms.Rule (now line) (e .question) (e .place)
 
 abbrev pub ReadFact : RefT (List ℕ) → Result FactLine Refusal → Type 0
-ReadFact line (Ok f) = (f .line ≡ line) × Passes of-fact (now line) × Writes of-fact (now line) (fact-of f)
-ReadFact line (Err e) = Turned of-fact (now line) (e .question) (e .place)
+ReadFact line (Ok f) = (f .line ≡ line) × Passes forms.Fact (now line) × Writes forms.Fact (now line) (fact-of f)
+ReadFact line (Err e) = Turned forms.Fact (now line) (e .question) (e .place)

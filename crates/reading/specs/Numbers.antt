@@ -11,7 +11,7 @@ use Rattle.questions.specs.declared.question.Question.the-variants.{Numbers}
 use Rattle.lists.specs.Places.{First, Pairwise}
 use Rattle.tokens.specs.Tokens.{Token}
 use Rattle.patterns.specs.Patterns.{Writes}
-use Rattle.patterns.specs.Patterns.Form.{of-fact}
+use Rattle.patterns.specs.declared.state.Form.the-variants as forms
 use Rattle.patterns.specs.Asking.{GoodNumber, Number, Yes, No}
 use Rattle.patterns.specs.Asking.Asked.{numbers}
 use Rattle.patterns.specs.Tables.{written}
@@ -33,5 +33,5 @@ Valued f (Err e) = (k : ℕ) × (w : Token) × First (λ x. GoodNumber (x .text)
 
 -- of a line that writes the fact: the question on its numbers is answered so
 abbrev pub Asks : FactLine → Result Values Refusal → Type 0
-Asks f (Ok v) = Writes of-fact (now (f .line)) (fact-of f) → Yes of-fact (now (f .line)) numbers
-Asks f (Err e) = Writes of-fact (now (f .line)) (fact-of f) → No of-fact (now (f .line)) numbers (e .place) × (e .question ≡ Numbers)
+Asks f (Ok v) = Writes forms.Fact (now (f .line)) (fact-of f) → Yes forms.Fact (now (f .line)) numbers
+Asks f (Err e) = Writes forms.Fact (now (f .line)) (fact-of f) → No forms.Fact (now (f .line)) numbers (e .place) × (e .question ≡ Numbers)

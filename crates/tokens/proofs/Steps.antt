@@ -1,7 +1,7 @@
 -- A reading from the left goes on by blanks and by a token, and passes through every place that it reaches.
 use mathlib.Core.Path.{_≡_, refl, sym, ap, subst, _∙_}
 use mathlib.Core.List.{List, [], _∷_, _++_, append-nil}
-use Prim.Native.Nat.{ℕ, zero, suc, _+_, _-_, _<_, _≤_}
+use Prim.Native.Nat.{ℕ, zero, suc, _+_, _-_, _<_}
 use native.Mathlib.Omega.{arith}
 use lib.ListN.{length}
 use Rattle.tokens.specs.Tokens.{Kind, Lies, Token, token-at, Between, Tokens, Nothing-at, Stray}
@@ -29,9 +29,6 @@ between-blanks s i a ts t b = subst (Between s a 0) (append-nil ts) (between-joi
 pub between-snoc : (s : List ℕ) (a e : ℕ) (k : Kind) (ts : List Token) → Between s a 0 ts → Lies s a e k → Between s e 0 (ts ++ (token-at s a e k ∷ []))
 between-snoc s a e k ts t l = between-join s a e 0 ts (token-at s a e k ∷ []) t (token e k l (none refl))
 
-pub between-splits : (s : List ℕ) (a e : ℕ) (ts us : List Token) → Between s a 0 ts → Between s e 0 us → a ≤ e → (rest : List Token) × (us ≡ ts ++ rest) × Between s e a rest
-between-splits s a e ts us t u h = between-passes s a e 0 ts us t u h
-
 -- what is read from a place at which a token lies begins with that token
 pub between-begins : (s : List ℕ) (a e n : ℕ) (k : Kind) (us : List Token) → Lies s a e k → Between s n a us → a < n → (rest : List Token) × (us ≡ token-at s a e k ∷ rest) × Between s n e rest
 between-begins s a e n k us l (none q) h = absurd (omega arith)
@@ -45,7 +42,7 @@ pub next-token : (s : List ℕ) (a e : ℕ) (k : Kind) (ts us : List Token) → 
 next-token s a e k ts us u t l =
     let w = lies-within s a e k l in
     let g = lies-longer s a e k l in
-    let (more, same, left) = between-splits s a (length s) ts us t u (omega arith) in
+    let (more, same, left) = between-passes s a (length s) 0 ts us t u (omega arith) in
     let (rest, first, _) = between-begins s a e (length s) k more l left (omega arith) in
     (rest, same ∙ ap (λ (x : List Token). ts ++ x) first)
 

@@ -33,21 +33,22 @@ fn reach(line: &[u8], at: usize) -> usize
     }
 }
 
-// The first byte that belongs to no token and is no blank. Bytes before `due` belong to a mark that was passed whole.
-pub fn first_bad(line: &[u8]) -> Option<usize>
+// The first byte that belongs to no token and is no blank.
+pub fn first_stray(line: &[u8]) -> Option<usize>
     ensures found { λ r. ⌜ Cases r ((ts : List Token) × Tokens (now (line .entry)) ts) (λ p. Stray (now (line .entry)) p) ⌝ }
     ensures determined { λ _. ⌜ Determined (now (line .entry)) ⌝ }
 {
-    let mut bad = None;
+    let mut stray = None;
+    // What lies before it belongs to a mark that was passed whole.
     let mut due = 0;
     for i in 0..line.len() {
         if due <= i {
             let n = reach(line, i);
             if n == 0 {
-                bad = bad.or(Some(i));
+                stray = stray.or(Some(i));
             }
             due = i + n;
         }
     }
-    bad
+    stray
 }

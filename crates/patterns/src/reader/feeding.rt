@@ -4,7 +4,7 @@ ghost use mathlib.Core.List.{List};
 ghost use Prim.Native.Nat.{ℕ};
 ghost use Rattle.std.specs.Vec.{refused};
 ghost use Rattle.patterns.specs.Machine.{start};
-ghost use Rattle.patterns.specs.Drafts.{form-of, Shows, Same, Advanced, Fed, Finished};
+ghost use Rattle.patterns.specs.Drafts.{Shows, Same, Advanced, Fed, Finished};
 use super::Reader;
 use super::Tables;
 use crate::atom::Side;
@@ -18,7 +18,7 @@ use tokens::token::Token;
 
 impl Reader {
     pub fn new(form: Form) -> Reader
-        ensures { λ r. ⌜ ((s : List ℕ) → Shows s r (start (form-of form)) 0) ⌝ }
+        ensures { λ r. ⌜ ((s : List ℕ) → Shows s r (start form) 0) ⌝ }
     {
         let filler = Span { place: 0, len: 0 };
         let state = match form {

@@ -3,7 +3,7 @@ use mathlib.Core.List.{List}
 use Prim.Native.Nat.{ℕ, _-_}
 use lib.ListN.{length}
 use denote.Ref.{now}
-use Rattle.patterns.specs.Patterns.{Form}
+use Rattle.patterns.specs.declared.state.Form.{Form}
 use Rattle.patterns.specs.Machine.{start}
 use Rattle.patterns.specs.Drafts.{Shows}
 use Rattle.reading.proofs.Completing.{Along}

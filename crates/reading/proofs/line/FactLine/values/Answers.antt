@@ -1,8 +1,8 @@
-use mathlib.Core.Path.{refl, sym, subst}
+use mathlib.Core.Path.{refl, subst}
 use mathlib.Core.List.{List}
 use Prim.Native.Nat.{ℕ}
 use Rattle.patterns.specs.Asking.{Number, GoodNumber}
-use Rattle.reading.proofs.Valuing.{Front, front-none, front-more, front-all, front-bad}
+use Rattle.reading.proofs.Valuing.{front-more, front-all, front-bad}
 use Rattle.reading.proofs.line.FactLine.values.Needs as need
 
 pub returns-in-None : need.returns-in-None

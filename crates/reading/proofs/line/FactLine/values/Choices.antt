@@ -1,4 +1,3 @@
-use denote.Ref.{now}
 use Rattle.reading.proofs.Valuing.{Front}
 use Rattle.reading.proofs.line.FactLine.values.Given as given
 

@@ -1,4 +1,6 @@
 // Tries books of rules: adds each line of two inputs to a book, and runs a table of calls on one. Tells what comes of each.
+#![tactic(auto)]
+
 use book::book::Book;
 use dependencies::affected;
 use lines::Lines;

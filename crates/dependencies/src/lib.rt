@@ -1,4 +1,6 @@
 // The edges and the affected positions of a list of rules.
+#![tactic(auto)]
+
 mod affecting;
 mod occurrence;
 mod positions;

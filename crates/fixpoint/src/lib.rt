@@ -1,4 +1,6 @@
 // The one search: what follows in a system of steps, the round in which each item is found, ways back and an order.
+#![tactic(auto)]
+
 ghost use Rattle.std.specs.Prelude.{◌≡◌, ℕ, ◌<◌, ◌≤◌, List, [], ◌∷◌, Decides, slice_index};
 ghost use Rattle.fixpoint.specs.Least.{FoundBy, Found, Determined};
 ghost use Rattle.fixpoint.specs.Steps.{Step, Ready, Single};

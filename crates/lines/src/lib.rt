@@ -1,4 +1,6 @@
 // A text cut into numbered lines, handed out one by one.
+#![tactic(auto)]
+
 ghost use Rattle.std.specs.Prelude.{◌≡◌, ◌≤◌, length};
 ghost use Rattle.lines.specs.Cutting.{CutDetermined, Ends, Next};
 

@@ -1,4 +1,6 @@
 // What is told of a position of a book: its rank.
+#![tactic(auto)]
+
 ghost use Rattle.std.specs.Prelude.{Decides};
 ghost use Rattle.book.specs.Books.{plain_book};
 ghost use Rattle.positions.specs.Positions.{KnownPosition, RankTold};

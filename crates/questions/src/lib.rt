@@ -1,4 +1,6 @@
 // The questions that a call is put, and the refusal that the first no makes.
+#![tactic(auto)]
+
 ghost use Rattle.std.specs.Prelude.{◌≡◌};
 ghost use Rattle.questions.specs.Questions.{number_of, layer_of};
 

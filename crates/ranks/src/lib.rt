@@ -1,4 +1,6 @@
 // The ranks of 128 positions, from a table of the edges between them.
+#![tactic(auto)]
+
 ghost use Rattle.std.specs.Prelude.{ℕ, ◌<◌, List, slice_index_or};
 ghost use Rattle.graphs.specs.declared.step.Step.{Step};
 ghost use Rattle.graphs.specs.Laws.{Finite};

@@ -1,4 +1,6 @@
 // Bytes to tokens. Here stand the functions on bytes that its modules share.
+#![tactic(auto)]
+
 ghost use Rattle.std.specs.Prelude.{◌≡◌, ◌+◌, ◌-◌, ◌<◌, ◌≤◌, true, length, Decides, slice_index};
 ghost use Rattle.lists.specs.Parts.{Part};
 ghost use Rattle.tokens.specs.Tokens.{word_byte, Run, Lies};

@@ -1,4 +1,6 @@
 // Tries tables of lines, and tells what comes of each: rule lines, fact lines, and the word at each place of a line.
+#![tactic(auto)]
+
 use lines::Lines;
 use questions::question::Refusal;
 use reading::read::{read_fact, read_rule};

@@ -1,4 +1,6 @@
 // Reads rule lines from standard input, and says of each that is turned away which question it fails, and where.
+#![tactic(auto)]
+
 use lines::Lines;
 use reading::read::read_rule;
 use std::io;

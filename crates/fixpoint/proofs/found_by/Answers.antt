@@ -5,7 +5,7 @@ use Rattle.fixpoint.proofs.found_by.Goals as goal
 
 pub returns-then-round-gt0 : goal.returns-then-round-gt0
 returns-then-round-gt0 c =
-    let found : Decides (leb c.round-of-round.result c.args.before) (FoundBy c.args.rounds.now c.args.before c.args.item) = search rules in
+    let found : Decides (leb c.round_of-round.result c.args.before) (FoundBy c.args.rounds.now c.args.before c.args.item) = search rules in
     record { found = found; ready = ready_one _ _ _ _ found }
 
 pub returns-else-round-gt0 : goal.returns-else-round-gt0

@@ -3,7 +3,7 @@ use Rattle.fixpoint.proofs.Rounds.{undecided, begun_none, begun_skip, begun_set,
 use Rattle.fixpoint.proofs.Only.{determined}
 use Rattle.fixpoint.proofs.Placing.{grounded}
 use Rattle.fixpoint.proofs.search.Goals as goal
-use Rattle.fixpoint.proofs.search.Goals.{then-is-first, else-is-first, then-to-n+then-fresh+then-ready, then-to-n+then-fresh+else-ready, then-to-n+else-fresh, else-to-n}
+use Rattle.fixpoint.proofs.search.Goals.{then-is_first, else-is_first, then-to-n+then-fresh+then-ready, then-to-n+then-fresh+else-ready, then-to-n+else-fresh, else-to-n}
 
 pub firsts-init : goal.firsts-init
 firsts-init g c = begun_none
@@ -11,9 +11,9 @@ firsts-init g c = begun_none
 pub firsts-preserved : goal.firsts-preserved
 firsts-preserved g c =
     let inside : c.firsts.i < g.Y.System.size c.args.system.now = rw (← c.items-n.ensures.is) c.firsts-test.true in
-    elim c.if-is-first.branch [
-      | then-is-first w ↦ rw w.rounds-is (begun_set c.firsts.invariant c.firsts-test.true c.items-n.ensures.few ((c.is-first.ensures inside).0 w.if-is-first.true))
-      | else-is-first w ↦ rw w.rounds-is (begun_skip c.firsts.invariant (undecided (c.is-first.ensures inside) w.if-is-first.false))
+    elim c.if-is_first.branch [
+      | then-is_first w ↦ rw w.rounds-is (begun_set c.firsts.invariant c.firsts-test.true c.items-n.ensures.few ((c.is_first.ensures inside).0 w.if-is_first.true))
+      | else-is_first w ↦ rw w.rounds-is (begun_skip c.firsts.invariant (undecided (c.is_first.ensures inside) w.if-is_first.false))
     ]
 
 pub rounds-init : goal.rounds-init

@@ -10,19 +10,19 @@ use Rattle.positions.proofs.Tabling.{ranked_so, rules_are, known_below}
 use Rattle.positions.proofs.rank.Goals as goal
 
 pub bounds-told-position : goal.bounds-told-position
-bounds-told-position c = let b = c.args.book.now in known_below (plain_book b) b.sound c.args.position (c.is-known.ensures.0 c.if-not-is-known.false)
+bounds-told-position c = let b = c.args.book.now in known_below (plain_book b) b.sound c.args.position (c.is_known.ensures.0 c.if-not-is_known.false)
 
-pub offset-bounds-told-position : goal.offset-bounds-told-position
-offset-bounds-told-position c =
+pub offset_bounds-told-position : goal.offset_bounds-told-position
+offset_bounds-told-position c =
     let b = c.args.book.now in
-    let p : c.args.position < 128 = known_below (plain_book b) b.sound c.args.position (c.is-known.ensures.0 c.if-not-is-known.false) in
+    let p : c.args.position < 128 = known_below (plain_book b) b.sound c.args.position (c.is_known.ensures.0 c.if-not-is_known.false) in
     search rules
 
 pub returns : goal.returns
 returns c =
     let b = c.args.book.now in
     let p = c.args.position in
-    let known = c.is-known.ensures.0 c.if-not-is-known.false in
+    let known = c.is_known.ensures.0 c.if-not-is_known.false in
     let below = known_below (plain_book b) b.sound p known in
     let told = c.ranks-told.result in
     let long : length told ≡ 128 = search rules in

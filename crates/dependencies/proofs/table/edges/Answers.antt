@@ -9,8 +9,8 @@ rules-init c = raised_none (Upto 0 (EdgesIn (map plain_rule c.args.rules.now))) 
 
 pub rules-preserved : goal.rules-preserved
 rules-preserved c =
-    raised_next (EdgesIn (map plain_rule c.args.rules.now)) c.rules.i (replicate 16384 0) c.rules.table c.add-rule.new.table c.rules.invariant
-    (raised_in c.args.rules.now c.rules.i c.index-rules-i.result c.rules.table c.add-rule.new.table c.rules-test.true c.index-rules-i.is c.add-rule.ensures)
+    raised_next (EdgesIn (map plain_rule c.args.rules.now)) c.rules.i (replicate 16384 0) c.rules.table c.add_rule.new.table c.rules.invariant
+    (raised_in c.args.rules.now c.rules.i c.index-rules-i.result c.rules.table c.add_rule.new.table c.rules-test.true c.index-rules-i.is c.add_rule.ensures)
 
 pub returns : goal.returns
 returns c = tabulated c.args.rules.now c.rules.i c.rules.table c.rules-test.false c.rules.invariant

@@ -17,7 +17,7 @@ returns c = record {
       behind = search rules;
       onwards = search rules;
       within = search rules;
-      lines = λ rest cut. line_first c.args.self.now.text.now c.args.self.now.at c.line-end-end.result c.min-next.result rest (omega arith) c.line-end-end.ensures (omega arith) cut;
+      lines = λ rest cut. line_first c.args.self.now.text.now c.args.self.now.at c.line_end-end.result c.min-next.result rest (omega arith) c.line_end-end.ensures (omega arith) cut;
     },
   );
   determined = determined _;

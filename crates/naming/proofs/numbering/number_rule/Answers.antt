@@ -12,6 +12,6 @@ returns c =
     let known = predicates_of c.args.known.now in
     let v = c.new-variables.result in
     let none : names_of s v ≡ [] = ap (λ (k : ℕ). map (text_at s) (take k v.table)) c.new-variables.ensures in
-    let mid = names_of s c.number-side.new.variables in
-    let body = subst (λ (k : List (List ℕ)). SideNumbered known (side_of s rule.body) k mid (Some c.in-ok-body.body)) none c.in-ok-body.ensures.numbered in
-    (rule_numbered known (side_of s rule.body) (side_of s rule.head) mid (names_of s c.number-side-2.new.variables) c.new-label.result c.in-ok-body.body c.in-ok-head.head body c.in-ok-head.ensures.numbered, c.new-label.ensures ∙ ap (take 8) c.text.ensures.holds)
+    let mid = names_of s c.number_side.new.variables in
+    let body = subst (λ (k : List (List ℕ)). SideNumbered known (side_of s rule.body) k mid (Some c.in_ok-body.body)) none c.in_ok-body.ensures.numbered in
+    (rule_numbered known (side_of s rule.body) (side_of s rule.head) mid (names_of s c.number_side-2.new.variables) c.new-label.result c.in_ok-body.body c.in_ok-head.head body c.in_ok-head.ensures.numbered, c.new-label.ensures ∙ ap (take 8) c.text.ensures.holds)

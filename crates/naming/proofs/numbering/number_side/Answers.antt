@@ -7,17 +7,17 @@ use Rattle.naming.specs.Numbering.{SideNumbered}
 use Rattle.naming.proofs.Sides.{begun_more, begun_stuck, begun_all}
 use Rattle.naming.proofs.numbering.number_side.Goals as goal
 
-pub returns-in-err-made : goal.returns-in-err-made
-returns-in-err-made c =
+pub returns-in_err-made : goal.returns-in_err-made
+returns-in_err-made c =
     let s = c.args.line.now in
     let known = predicates_of c.args.known.now in
     let before = names_of s c.args.variables.now in
-    let after = names_of s c.number-atom.new.variables in
+    let after = names_of s c.number_atom.new.variables in
     let few = c.atoms-atoms.ensures.few in
-    rw c.from-residual-in-err-made.ensures
+    rw c.from_residual-in_err-made.ensures
     (record {
-      numbered = subst (λ (k : List source.Atom). SideNumbered known (map (written s) k) before after None) c.atoms-atoms.ensures.atoms (begun_stuck known s c.atoms-atoms.result.now before (names_of s c.atoms.variables) after c.atoms.i _ c.atoms-test.true c.in-err-made.ensures.numbered);
-      count = omega (arith, c.number-atom.ensures.count, c.atoms.invariant.1, c.atoms-test.true);
+      numbered = subst (λ (k : List source.Atom). SideNumbered known (map (written s) k) before after None) c.atoms-atoms.ensures.atoms (begun_stuck known s c.atoms-atoms.result.now before (names_of s c.atoms.variables) after c.atoms.i _ c.atoms-test.true c.in_err-made.ensures.numbered);
+      count = omega (arith, c.number_atom.ensures.count, c.atoms.invariant.1, c.atoms-test.true);
     })
 
 pub atoms-preserved : goal.atoms-preserved
@@ -25,8 +25,8 @@ atoms-preserved c =
     let s = c.args.line.now in
     let few = c.atoms-atoms.ensures.few in (
       length-set c.atoms.made c.atoms.i _ ∙ c.atoms.invariant.0,
-      omega (arith, c.number-atom.ensures.count, c.atoms.invariant.1),
-      begun_more (predicates_of c.args.known.now) s c.atoms-atoms.result.now (names_of s c.args.variables.now) (names_of s c.atoms.variables) (names_of s c.number-atom.new.variables) c.atoms.made c.atoms.i _ c.in-ok-made.field-0 c.atoms-test.true (omega (arith, c.atoms-test.true, c.atoms.invariant.0)) c.atoms.invariant.2 c.in-ok-made.ensures.numbered,
+      omega (arith, c.number_atom.ensures.count, c.atoms.invariant.1),
+      begun_more (predicates_of c.args.known.now) s c.atoms-atoms.result.now (names_of s c.args.variables.now) (names_of s c.atoms.variables) (names_of s c.number_atom.new.variables) c.atoms.made c.atoms.i _ c.in_ok-made.field-0 c.atoms-test.true (omega (arith, c.atoms-test.true, c.atoms.invariant.0)) c.atoms.invariant.2 c.in_ok-made.ensures.numbered,
     )
 
 pub returns : goal.returns

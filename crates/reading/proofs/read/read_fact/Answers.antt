@@ -6,12 +6,12 @@ use Rattle.patterns.proofs.Parting.{line_determined}
 use Rattle.reading.proofs.Ordering.{fact_written}
 use Rattle.reading.proofs.read.read_fact.Goals as goal
 
-pub returns-in-err-tables : goal.returns-in-err-tables
-returns-in-err-tables c =
-    let p = err_from_is_err_and c.from-residual.result c.from-residual.ensures.1 in
-    record { read = rw (p.1, p.2) c.in-err-tables.ensures; determined = line_determined forms.Fact _; machine = machine_exact forms.Fact }
+pub returns-in_err-tables : goal.returns-in_err-tables
+returns-in_err-tables c =
+    let p = err_from_is_err_and c.from_residual.result c.from_residual.ensures.1 in
+    record { read = rw (p.1, p.2) c.in_err-tables.ensures; determined = line_determined forms.Fact _; machine = machine_exact forms.Fact }
 
 pub returns : goal.returns
 returns c =
-    let (passes, spells) = c.in-ok-tables.ensures in
+    let (passes, spells) = c.in_ok-tables.ensures in
     record { read = (refl, passes, fact_written _ _ _ _ c.atoms.ensures.atoms spells); determined = line_determined forms.Fact _; machine = machine_exact forms.Fact }

@@ -8,8 +8,8 @@ use Rattle.book.proofs.book.Book.new.Goals as goal
 
 pub invariant-of-result : goal.invariant-of-result
 invariant-of-result c =
-    let v = c.in-ok-rules.rules in
+    let v = c.in_ok-rules.rules in
     let k = c.new.result in
-    let made = c.in-ok-rules.ensures in
+    let made = c.in_ok-rules.ensures in
     let e : book_of (vec_items v) k ≡ plain.empty = ap (λ (xs : List Rule). book_of xs k) made.items ∙ ap (λ (ps : List Predicate). record { entries = []; known = ps }) c.new.ensures in
     (made.capacity, (∣ subst (λ (b : plain.Book). plain.Sound b) (sym e) sound_empty ∣₁, tt))

@@ -7,8 +7,8 @@ use Rattle.book.proofs.Parting.{determined}
 use Rattle.book.proofs.Standing.{removed_book, sound_less}
 use Rattle.book.proofs.book.Book.withdraw.Goals as goal
 
-pub take-out-requires : goal.take-out-requires
-take-out-requires c =
+pub take_out-requires : goal.take_out-requires
+take_out-requires c =
     let b = c.args.self.now in
     let (e, carries) = c.in-Some.ensures in
     omega (arith, at_below (plain_book b).entries c.in-Some.number e carries.here, b.rules.ok.0, length-map (vec_items b.rules) plain_entry)
@@ -17,8 +17,8 @@ pub invariant-of-self : goal.invariant-of-self
 invariant-of-self c =
     let b = c.args.self.now in
     let (e, carries) = c.in-Some.ensures in
-    let gone = removed_book (vec_items b.rules) _ c.in-Some.number b.known c.take-out.ensures.items in (
-      subst (λ (n : ℕ). 64 ≤ n) (sym c.take-out.ensures.capacity) b.room,
+    let gone = removed_book (vec_items b.rules) _ c.in-Some.number b.known c.take_out.ensures.items in (
+      subst (λ (n : ℕ). 64 ≤ n) (sym c.take_out.ensures.capacity) b.room,
       (sound_less (plain_book b) _ c.args.label.now b.sound (record { number = c.in-Some.number; entry = e; carries = carries; becomes = gone }), tt),
     )
 
@@ -26,7 +26,7 @@ pub returns-in-Some : goal.returns-in-Some
 returns-in-Some c =
     let b = c.args.self.now in
     let (e, carries) = c.in-Some.ensures in
-    let gone = removed_book (vec_items b.rules) _ c.in-Some.number b.known c.take-out.ensures.items in
+    let gone = removed_book (vec_items b.rules) _ c.in-Some.number b.known c.take_out.ensures.items in
     record { withdrawn = record { number = c.in-Some.number; entry = e; carries = carries; becomes = gone }; determined = determined (plain_book b) }
 
 pub returns-in-None : goal.returns-in-None

@@ -37,12 +37,12 @@ returns-in-None c =
     let s = c.args.line.now in
     let a = c.args.atom.now in
     let l = c.args.self.now in
-    let m = c.learn-new.new.self in
+    let m = c.learn_new.new.self in
     let word = c.predicate-word.ensures in
     let spelled = c.text.ensures.holds ∙ ap (text_at s) word in
     let long = ap (λ (k : List Span). length k) c.words-columns.ensures.words ∙ sym (length-map (spans a) (word_at s)) in
     let name = ap (λ (w : Span). take 8 (text_at s w)) word ∙ take_all 8 (text_at s a.predicate) c.requires.short in
     let new = subst (λ (n : List ℕ). NewLearned n (length (written s a).words) a.predicate.place l m) name
     (subst (λ (n : ℕ). NewLearned (take 8 (text_at s c.predicate-word.result)) n a.predicate.place l m) long
-    (subst (λ (n : ℕ). NewLearned (take 8 (text_at s c.predicate-word.result)) (length c.words-columns.result.now) n l m) (ap (λ (w : Span). w.place) word) c.learn-new.ensures.new)) in
-    record { learned = learnt_new (written s a) l m (λ i p at e. c.in-None.ensures i p at (e ∙ sym spelled)) new; count = c.learn-new.ensures.count }
+    (subst (λ (n : ℕ). NewLearned (take 8 (text_at s c.predicate-word.result)) (length c.words-columns.result.now) n l m) (ap (λ (w : Span). w.place) word) c.learn_new.ensures.new)) in
+    record { learned = learnt_new (written s a) l m (λ i p at e. c.in-None.ensures i p at (e ∙ sym spelled)) new; count = c.learn_new.ensures.count }

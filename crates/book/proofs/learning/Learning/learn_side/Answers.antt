@@ -6,8 +6,8 @@ use Rattle.book.specs.Learning.{SideLearned}
 use Rattle.book.proofs.Sidewise.{short_at, side_more, side_stuck, side_all}
 use Rattle.book.proofs.learning.Learning.learn_side.Goals as goal
 
-pub learn-atom-requires : goal.learn-atom-requires
-learn-atom-requires c =
+pub learn_atom-requires : goal.learn_atom-requires
+learn_atom-requires c =
     let s = c.args.line.now in
     let atoms = c.atoms-atoms.result.now in
     let i = c.atoms.i in
@@ -18,22 +18,22 @@ learn-atom-requires c =
       short = short_at s atoms _ i _ c.atoms-atoms.ensures.atoms c.atoms-test.true c.requires.short;
     }
 
-pub returns-in-err-learn-atom : goal.returns-in-err-learn-atom
-returns-in-err-learn-atom c =
+pub returns-in_err-learn_atom : goal.returns-in_err-learn_atom
+returns-in_err-learn_atom c =
     let s = c.args.line.now in
     let few = c.atoms-atoms.ensures.few in
-    let p = err_from_is_err_and c.from-residual.result c.from-residual.ensures.1 in
-    let e = c.in-err-learn-atom.field-0.0 in
+    let p = err_from_is_err_and c.from_residual.result c.from_residual.ensures.1 in
+    let e = c.in_err-learn_atom.field-0.0 in
     rw (p.1, p.2)
     (record {
-      learned = subst (λ (k : List Atom). SideLearned (map (written s) k) c.args.self.now c.learn-atom.new.self (Err e)) c.atoms-atoms.ensures.atoms (side_stuck s c.atoms-atoms.result.now c.atoms.i _ c.args.self.now c.atoms.self c.learn-atom.new.self c.atoms-test.true c.atoms.invariant.1 e c.in-err-learn-atom.ensures.learned);
-      count = omega (arith, c.learn-atom.ensures.count, c.atoms.invariant.0, c.atoms-test.true);
+      learned = subst (λ (k : List Atom). SideLearned (map (written s) k) c.args.self.now c.learn_atom.new.self (Err e)) c.atoms-atoms.ensures.atoms (side_stuck s c.atoms-atoms.result.now c.atoms.i _ c.args.self.now c.atoms.self c.learn_atom.new.self c.atoms-test.true c.atoms.invariant.1 e c.in_err-learn_atom.ensures.learned);
+      count = omega (arith, c.learn_atom.ensures.count, c.atoms.invariant.0, c.atoms-test.true);
     })
 
 pub atoms-preserved : goal.atoms-preserved
 atoms-preserved c =
     let s = c.args.line.now in
-    (omega (arith, c.learn-atom.ensures.count, c.atoms.invariant.0), side_more s c.atoms-atoms.result.now c.atoms.i _ c.args.self.now c.atoms.self c.learn-atom.new.self c.atoms-test.true c.atoms.invariant.1 c.in-ok-learn-atom.ensures.learned)
+    (omega (arith, c.learn_atom.ensures.count, c.atoms.invariant.0), side_more s c.atoms-atoms.result.now c.atoms.i _ c.args.self.now c.atoms.self c.learn_atom.new.self c.atoms-test.true c.atoms.invariant.1 c.in_ok-learn_atom.ensures.learned)
 
 pub returns : goal.returns
 returns c =

@@ -8,7 +8,7 @@ use Rattle.dependencies.proofs.affecting.PositionsSystem.ready.Goals as goal
 pub returns-then-contains : goal.returns-then-contains
 returns-then-contains c _ =
     ready_at c.args.self.now.rules.now c.args.s c.index-self-i.result c.if-i-self.false c.args.rounds.now c.args.before
-    c.in-Some.o.variable c.in-Some.o.position c.all-found.result c.in-Some.ensures (c.contains.ensures.0 c.if-contains.true) c.all-found.ensures
+    c.in-Some.o.variable c.in-Some.o.position c.all_found.result c.in-Some.ensures (c.contains.ensures.0 c.if-contains.true) c.all_found.ensures
 
 pub returns-else-contains : goal.returns-else-contains
 returns-else-contains c _ =
@@ -16,7 +16,7 @@ returns-else-contains c _ =
     (Some (c.in-Some.o.variable, c.in-Some.o.position)) c.in-Some.ensures
     (positions_none (plain_side (get_or c.args.self.now.rules.now (c.args.s / 16) c.index-self-i.result).body) c.in-Some.o.variable (not_from_Decides c.contains.result c.contains.ensures c.if-contains.false))
 
-pub returns-in-default : goal.returns-in-default
-returns-in-default c _ =
+pub returns-in_default : goal.returns-in_default
+returns-in_default c _ =
     not_ready c.args.self.now.rules.now c.args.s c.index-self-i.result c.if-i-self.false c.args.rounds.now c.args.before
-    None c.in-default.ensures refl
+    None c.in_default.ensures refl

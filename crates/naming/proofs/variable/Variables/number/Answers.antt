@@ -20,7 +20,7 @@ returns c =
     let t = c.args.self.now in
     let s = c.args.line.now in
     let w = c.args.word in
-    let new = c.in-default.ensures in
+    let new = c.in_default.ensures in
     let h : t.count < length t.table = search rules in
     let more : map (text_at s) (take (t.count + 1) (set t.table t.count w)) ≡ names_of s t ++ (text_at s w ∷ []) = ap (map (text_at s)) (take_more_set t.table t.count w h) ∙ map_snoc (text_at s) _ _ in
     record { joined = inr (new, more); number = rw more (new_first (names_of s t) (text_at s w) t.count (front_length (text_at s) t.table t.count (omega arith)) new); count = omega arith; small = search rules }

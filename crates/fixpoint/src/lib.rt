@@ -76,9 +76,9 @@ pub fn found_by(rounds: &[Round; 1024], item: usize, before: Round) -> bool
 
 /// The round in which each item is found: a step is looked at once a round, until a round finds nothing.
 pub fn search<Y: System>(system: &Y) -> [Round; 1024]
-    ensures found { Found (size system.now) (first system.now) (Step (count system.now) (needs system.now) (leads system.now)) result }
-    ensures determined { Determined (size system.now) (first system.now) (Step (count system.now) (needs system.now) (leads system.now)) }
-    ensures grounded { (items : List ℕ) → Ordered result items → Grounded (first system.now) (Step (count system.now) (needs system.now) (leads system.now)) items }
+    ensures found { Found (Y.size system.now) (Y.first system.now) (Step (Y.count system.now) (Y.needs system.now) (Y.leads system.now)) result }
+    ensures determined { Determined (Y.size system.now) (Y.first system.now) (Step (Y.count system.now) (Y.needs system.now) (Y.leads system.now)) }
+    ensures grounded { (items : List ℕ) → Ordered result items → Grounded (Y.first system.now) (Step (Y.count system.now) (Y.needs system.now) (Y.leads system.now)) items }
 {
     let mut rounds = [0u64; 1024];
     let n = system.items();

@@ -13,7 +13,7 @@ fn step_back<Y: System>(
     to: usize,
     round: Round,
 ) -> Option<usize>
-    ensures { MatchOption result ((a : ℕ) → Step (count system.now) (needs system.now) (leads system.now) (a ∷ []) to → slice_index rounds.now a ≢ round) (λ a. Step (count system.now) (needs system.now) (leads system.now) (a ∷ []) to × (slice_index rounds.now a ≡ round)) }
+    ensures { MatchOption result ((a : ℕ) → Step (Y.count system.now) (Y.needs system.now) (Y.leads system.now) (a ∷ []) to → slice_index rounds.now a ≢ round) (λ a. Step (Y.count system.now) (Y.needs system.now) (Y.leads system.now) (a ∷ []) to × (slice_index rounds.now a ≡ round)) }
 {
     let m = system.steps();
     'steps: for s in 0..m {
@@ -37,7 +37,7 @@ pub fn way_back<Y: System>(
     out: &mut [u16],
 ) -> Option<usize>
     ensures many { IfSome result (λ n. (n ≡ slice_index rounds.now goal) × (n ≤ length out.old)) }
-    ensures way { Found (size system.now) (first system.now) (Step (count system.now) (needs system.now) (leads system.now)) rounds.now → MatchOption result (NoWay (size system.now) (first system.now) (Step (count system.now) (needs system.now) (leads system.now)) rounds.now goal (length out.old)) (λ n. Way (size system.now) (first system.now) (Step (count system.now) (needs system.now) (leads system.now)) goal (take n out.new) × Climbs rounds.now (take n out.new)) }
+    ensures way { Found (Y.size system.now) (Y.first system.now) (Step (Y.count system.now) (Y.needs system.now) (Y.leads system.now)) rounds.now → MatchOption result (NoWay (Y.size system.now) (Y.first system.now) (Step (Y.count system.now) (Y.needs system.now) (Y.leads system.now)) rounds.now goal (length out.old)) (λ n. Way (Y.size system.now) (Y.first system.now) (Step (Y.count system.now) (Y.needs system.now) (Y.leads system.now)) goal (take n out.new) × Climbs rounds.now (take n out.new)) }
     ensures rest { Rest out.old out.new result }
 {
     let round = round_of(rounds, goal);

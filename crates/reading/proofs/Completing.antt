@@ -118,7 +118,7 @@ whole form s ts d r h sh q =
     let (l, e) = finished d (sym sh.state ∙ q) in
     (l, run_follows form ts l (h ∙ ap (λ (x : Draft). Some x) e), subst (λ x. Held s r.tables r.extra (parts x) (length s)) e sh.held)
 
-pub along_end : (form : Form) (line m : MutBor (List ℕ)) (i j : ℕ) (o : Option Token) (r : Reader) (n : ℕ) (x : Result Tables Refusal) → line ≡ m → ((t : Token) → o ≡ Some t → ⊥)
+pub along_end : (form : Form) (line m : Bor (List ℕ)) (i j : ℕ) (o : Option Token) (r : Reader) (n : ℕ) (x : Result Tables Refusal) → line ≡ m → ((t : Token) → o ≡ Some t → ⊥)
     → n ≡ length m.now → Along form line.now r i → Next line i j (Ok o) → Finished r n x → Patterned form m.now x
 along_end form line m i j (Some t) r n x same some len a next f = absurd (some t refl)
 along_end form line m i j None r n (Ok t) same some len (ts, d, b, h, sh) (blanks, _) (q, e, k) =
@@ -137,7 +137,7 @@ along_end form line m i j None r n (Err e) same some len (ts, d, b, h, sh) (blan
         inr (record {
           going = run_completes form ts d h;
           short = λ l f. q (sh.state ∙ ap state_of (some_same d (done l) (sym h ∙ follows_run form ts l f)));
-          place = at ∙ len ∙ ap (λ (y : MutBor (List ℕ)). length y.now) (sym same);
+          place = at ∙ len ∙ ap (λ (y : Bor (List ℕ)). length y.now) (sym same);
         }),
       ),
       sym why,

@@ -13,7 +13,7 @@ returns-then-eq c =
     let s = c.args.line.now in
     let i = c.search.i in
     let within : t.count ≤ length t.table = omega (arith, t.few, t.wide) in
-    let same = sym c.text.ensures.holds ∙ (slice_eq-Decides Decides-eqb _ _ _ c.eq.ensures).0 c.if-eq.true ∙ c.text_in-search.ensures.holds in
+    let same = sym c.text.ensures.holds ∙ (slice_eq-Decides Decides-eqb _ _ _ c.eq.ensures).0 c.if-eq.true ∙ c.text-in-search.ensures.holds in
     first_at (names_of s t) i _ (text_at s c.args.word) (found_first _ (names_of s t) i c.search.invariant _ (front_at (text_at s) t.table t.count within i _ c.search-test.true) same)
 
 pub search-preserved : goal.search-preserved
@@ -22,7 +22,7 @@ search-preserved c =
     let s = c.args.line.now in
     let i = c.search.i in
     let within : t.count ≤ length t.table = omega (arith, t.few, t.wide) in
-    none_more _ (names_of s t) i c.search.invariant _ (front_at (text_at s) t.table t.count within i _ c.search-test.true) (λ same. false≢true (sym c.if-eq.false ∙ (slice_eq-Decides Decides-eqb _ _ _ c.eq.ensures).1 (c.text.ensures.holds ∙ same ∙ sym c.text_in-search.ensures.holds)))
+    none_more _ (names_of s t) i c.search.invariant _ (front_at (text_at s) t.table t.count within i _ c.search-test.true) (λ same. false≢true (sym c.if-eq.false ∙ (slice_eq-Decides Decides-eqb _ _ _ c.eq.ensures).1 (c.text.ensures.holds ∙ same ∙ sym c.text-in-search.ensures.holds)))
 
 pub returns : goal.returns
 returns c (i, at) =

@@ -48,15 +48,18 @@ push_reserved-requires c =
     let few = rules_few (plain_book b) c.in_ok-rule.rule.line.now c.in_ok-numbered.ensures.0 in
     omega (arith, b.room, b.rules.ok.0, length-map (vec_items b.rules) plain_entry)
 
-pub invariant-of-self : goal.invariant-of-self
-invariant-of-self c =
+pub invariant_of-self : goal.invariant_of-self
+invariant_of-self c =
     let b = c.args.self.now in
     let (passes, adds) = c.in_ok-numbered.ensures in
     let line = c.in_ok-rule.rule.line.now in
     let rule = c.in_ok-numbered.numbered in
     let known = c.in_ok-numbered.known in
     let pushed = ap (λ (xs : List Rule). book_of xs known) c.push_reserved.ensures.items ∙ pushed_book (vec_items b.rules) rule known in
-    (subst (λ (n : ℕ). 64 ≤ n) (sym c.push_reserved.ensures.capacity) b.room, (sound_more (plain_book b) _ line b.sound passes (subst (λ (x : plain.Book). Adds (plain_book b) line x) (sym pushed) adds), tt))
+    record {
+      room = subst (λ (n : ℕ). 64 ≤ n) (sym c.push_reserved.ensures.capacity) b.room;
+      sound = sound_more (plain_book b) _ line b.sound passes (subst (λ (x : plain.Book). Adds (plain_book b) line x) (sym pushed) adds);
+    }
 
 pub returns : goal.returns
 returns c =

@@ -13,14 +13,15 @@ take_out-requires c =
     let (e, carries) = c.in-Some.ensures in
     omega (arith, at_below (plain_book b).entries c.in-Some.number e carries.here, b.rules.ok.0, length-map (vec_items b.rules) plain_entry)
 
-pub invariant-of-self : goal.invariant-of-self
-invariant-of-self c =
+pub invariant_of-self : goal.invariant_of-self
+invariant_of-self c =
     let b = c.args.self.now in
     let (e, carries) = c.in-Some.ensures in
-    let gone = removed_book (vec_items b.rules) _ c.in-Some.number b.known c.take_out.ensures.items in (
-      subst (λ (n : ℕ). 64 ≤ n) (sym c.take_out.ensures.capacity) b.room,
-      (sound_less (plain_book b) _ c.args.label.now b.sound (record { number = c.in-Some.number; entry = e; carries = carries; becomes = gone }), tt),
-    )
+    let gone = removed_book (vec_items b.rules) _ c.in-Some.number b.known c.take_out.ensures.items in
+    record {
+      room = subst (λ (n : ℕ). 64 ≤ n) (sym c.take_out.ensures.capacity) b.room;
+      sound = sound_less (plain_book b) _ c.args.label.now b.sound (record { number = c.in-Some.number; entry = e; carries = carries; becomes = gone });
+    }
 
 pub returns-in-Some : goal.returns-in-Some
 returns-in-Some c =

@@ -1,5 +1,5 @@
 -- Tables of the edges between 128 positions.
-use Rattle.std.specs.Prelude.{◌≡◌, ℕ, ◌+◌, ◌*◌, ◌<◌, ◌≤◌, ◌⊎◌, ◌↔◌, List, length, ◌≢◌}
+use Rattle.std.specs.Prelude.{◌≡◌, ℕ, ◌<◌, ◌≤◌, ◌⊎◌, ◌↔◌, List, length, ◌≢◌}
 use Rattle.lists.specs.Places.{At}
 use Rattle.ranks.specs.Tables.{entry}
 use Rattle.theory.specs.Rules.{Rule, In}

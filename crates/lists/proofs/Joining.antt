@@ -1,5 +1,5 @@
 -- First numbers and joined lists are determined, and what a joined list has.
-use Rattle.std.proofs.Common.{◌≡◌, ℕ, zero, suc, ◌+◌, ◌<◌, ◌≤◌, ◌⊎◌, List, [], ◌∷◌, ◌++◌, length, sym, refl, ◌∙◌, subst, inl, inr, arith}
+use Rattle.std.proofs.Common.{◌≡◌, ℕ, zero, suc, ◌<◌, ◌≤◌, ◌⊎◌, List, [], ◌∷◌, ◌++◌, length, sym, refl, ◌∙◌, subst, inl, inr, arith}
 use Rattle.lists.specs.Places.{At, Holds, Once, First, FirstAt}
 use Rattle.lists.specs.Joins.{Joined}
 use Rattle.lists.proofs.Numbered.{order, at_below, at_front, at_left, at_next, at_snoc}

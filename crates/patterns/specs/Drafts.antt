@@ -9,7 +9,6 @@ use Rattle.tokens.specs.Lexing.{kind_of, place_of, Is}
 use Rattle.tokens.specs.declared.token.Token.{Token}
 use Rattle.patterns.specs.Patterns.{Written, Line, Extra}
 use Rattle.patterns.specs.Patterns.Line.{rule_line, fact_line}
-use Rattle.patterns.specs.declared.state.Form.TheVariants as forms
 use Rattle.patterns.specs.Machine as machine
 use Rattle.patterns.specs.Machine.{Context, Draft, by_kind, atom_of, step}
 use Rattle.patterns.specs.Machine.Side.{body, head}

@@ -1,5 +1,5 @@
 -- Going along a line token by token, through the pattern machine, to its end.
-use Rattle.std.proofs.Common.{◌≡◌, ℕ, zero, suc, ◌+◌, ◌≤◌, List, [], ◌∷◌, ◌++◌, length, take, Some, None, Ok, Err, Option, Result, sym, refl, ap, ◌∙◌, subst, inl, inr, arith, Bor, MutBor}
+use Rattle.std.proofs.Common.{◌≡◌, ℕ, zero, suc, ◌≤◌, List, [], ◌∷◌, ◌++◌, length, take, Some, None, Ok, Err, Option, Result, sym, refl, ap, ◌∙◌, subst, inl, inr, arith, Bor}
 use Rattle.questions.specs.declared.question.Refusal.{Refusal}
 use Rattle.questions.specs.declared.question.Question.TheVariants.{Pattern}
 use Rattle.lists.specs.Places.{At}

@@ -1,5 +1,5 @@
 -- A line of bytes as tokens, read from the left.
-use Rattle.std.specs.Prelude.{◌≡◌, ℕ, ◌+◌, ◌-◌, ◌<◌, ◌≤◌, Bool, true, false, ◌||◌, List, [], ◌∷◌, length, ◌==◌, slice_index, slice_range}
+use Rattle.std.specs.Prelude.{◌≡◌, ℕ, ◌+◌, ◌<◌, ◌≤◌, Bool, true, false, ◌||◌, List, [], ◌∷◌, length, ◌==◌, slice_index, slice_range}
 use Rattle.std.specs.Char.{is_ascii_alphanumeric}
 
 -- a letter, a digit or an underscore

@@ -1,6 +1,6 @@
 -- The rules in memory after one more stands, and after one is withdrawn.
 use Rattle.std.proofs.Common.{◌≡◌, ℕ, zero, suc, ◌+◌, ◌<◌, List, [], ◌∷◌, ◌++◌, map, length, take, drop, refl, ap, ◌∙◌, arith}
-use mathlib.Core.Logic.{∥∥₁_map}
+use Rattle.std.proofs.Math.Logic.{∥∥₁_map}
 use Rattle.lists.proofs.Mapped.{map_snoc}
 use Rattle.rules.specs.declared.rule.Rule.{Rule}
 use Rattle.naming.specs.Names.{predicates_of}

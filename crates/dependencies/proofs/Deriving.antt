@@ -1,6 +1,6 @@
 -- The least set of the system of positions is that of the affected positions.
 use Rattle.std.proofs.Common.{◌≡◌, ℕ, ◌+◌, ◌*◌, ◌/◌, ◌%◌, ◌<◌, Bool, false, ltb, List, [], map, length, get_or, set, Some, None, Decides, Option, sym, refl, ap, ◌∙◌, subst, ⊎_elim, arith, length-set}
-use lib.ListN.{length-map}
+use Rattle.std.proofs.Math.ListN.{length-map}
 use Rattle.std.proofs.lemmas.List.{get_or-set_same, get_or-set_other}
 use Rattle.std.proofs.lemmas.Bool.Decides.{Decides-at, Decides-ltb}
 use Rattle.std.proofs.lemmas.Bool.{cases_eq}
@@ -16,14 +16,14 @@ use Rattle.rules.proofs.Smallness.{rule_small}
 use Rattle.fixpoint.specs.Least.{Derived, by_first, by_step, Found}
 use Rattle.fixpoint.specs.Steps.{Step}
 use Rattle.theory.specs.Occurrences.{occurrence_of, Is, positions_of}
-use Rattle.dependencies.specs.Affecting.{first_of, needs_through, needs_in, needs_of, leads_through, leads_in, leads_of, Affections}
+use Rattle.dependencies.specs.Affecting.{FirstOf, needs_through, needs_in, needs_of, leads_through, leads_in, leads_of, Affections}
 use Rattle.lists.proofs.Elements.{at_nth, nth_at}
 use Rattle.theory.proofs.Occurring.{stands_number, number_stands, stands_in}
 use Rattle.theory.proofs.Positions.{positions_has, positions_only, positions_some}
 
 module _ (rules : List Rule) (n : ℕ) (long : n ≡ 16 * length rules) (small : (i : ℕ) (r : Rule) → At rules i r → SmallSide r.body × SmallSide r.head) where
   abbrev Reached : ℕ → Type 0
-  Reached p = Derived 128 (first_of rules) (Step n (needs_of rules) (leads_of rules)) p
+  Reached p = Derived 128 (FirstOf rules) (Step n (needs_of rules) (leads_of rules)) p
 
   is_some : (o : Option (ℕ × ℕ)) (v p : ℕ) → Is o v p → o ≡ Some (v, p)
   is_some None v p h = absurd h
@@ -96,7 +96,7 @@ told_next table rounds n l (long, each) = (length-set table n (ltb 0 (get_or rou
         (λ ne. Decides-at _ _ (get_or-set_other table n k (ltb 0 (get_or rounds n 0)) false ne) (each k (omega arith)))
         (cases_eq k n)
 
-pub affections : (rules : List memory.Rule) (rounds : List ℕ) (table : List Bool) → Found 128 (first_of (map plain_rule rules)) (Step (16 * length rules) (needs_of (map plain_rule rules)) (leads_of (map plain_rule rules))) rounds
+pub affections : (rules : List memory.Rule) (rounds : List ℕ) (table : List Bool) → Found 128 (FirstOf (map plain_rule rules)) (Step (16 * length rules) (needs_of (map plain_rule rules)) (leads_of (map plain_rule rules))) rounds
     → length table ≡ 128 → ((k : ℕ) → k < 128 → Decides (get_or table k false) (0 < get_or rounds k 0)) → Affections (map plain_rule rules) table
 affections rules rounds table found long each = record {
   long = long;

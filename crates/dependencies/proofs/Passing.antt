@@ -1,6 +1,6 @@
 -- The system of positions, step by step.
 use Rattle.std.proofs.Common.{◌≡◌, ℕ, ◌+◌, ◌/◌, ◌%◌, ◌<◌, ◌≤◌, Bool, true, false, List, map, length, get_or, Some, Decides, Option, sym, refl, ap, ◌∙◌, subst, ⊎_elim, arith}
-use lib.ListN.{length-map}
+use Rattle.std.proofs.Math.ListN.{length-map}
 use Rattle.std.specs.List.{slice_get}
 use Rattle.std.proofs.lemmas.Bool.{false≢true, cases_eq}
 use Rattle.lists.specs.Places.{At}
@@ -18,7 +18,7 @@ use Rattle.rules.specs.Views.{plain_side, plain_rule}
 use Rattle.rules.proofs.Smallness.{side_small}
 use Rattle.fixpoint.specs.Least.{FoundBy, Held}
 use Rattle.fixpoint.specs.Steps.{Ready, Single}
-use Rattle.dependencies.specs.Affecting.{first_of, FirstIn, needs_through, needs_in, needs_of, leads_through, leads_in, leads_of}
+use Rattle.dependencies.specs.Affecting.{FirstOf, FirstIn, needs_through, needs_in, needs_of, leads_through, leads_in, leads_of}
 
 -- each item by its number, and each by itself
 pub held_all : (rounds : List ℕ) (r : ℕ) (ps : List ℕ) → ((k q : ℕ) → At ps k q → FoundBy rounds r q) → Held rounds r ps
@@ -56,7 +56,7 @@ module _ (x : memory.Rule) (p : ℕ) where
 
 -- and of all rules
 module _ (rules : List memory.Rule) (p : ℕ) where
-  pub some_first : (i : ℕ) (d : memory.Rule) → i < length rules → FirstIn (plain_rule (get_or rules i d)) p → Decides true (first_of (map plain_rule rules) p)
+  pub some_first : (i : ℕ) (d : memory.Rule) → i < length rules → FirstIn (plain_rule (get_or rules i d)) p → Decides true (FirstOf (map plain_rule rules) p)
   some_first i d l (u, exists, head) = ((λ _. (i, (plain_rule (get_or rules i d), u, at_map_get plain_rule rules i d l, exists, head))), λ _. refl)
 
   pub none_first_next : (i : ℕ) (d : memory.Rule) → i < length rules → (FirstIn (plain_rule (get_or rules i d)) p → ⊥) → ((j : ℕ) (r : plain.Rule) → j < i → At (map plain_rule rules) j r → FirstIn r p → ⊥) → (j : ℕ) (r : plain.Rule) → j < i + 1 → At (map plain_rule rules) j r → FirstIn r p → ⊥
@@ -66,7 +66,7 @@ module _ (rules : List memory.Rule) (p : ℕ) where
       (λ ne. before j r (omega arith) here first)
       (cases_eq j i)
 
-  pub none_first : (i : ℕ) → length rules ≤ i → ((j : ℕ) (r : plain.Rule) → j < i → At (map plain_rule rules) j r → FirstIn r p → ⊥) → Decides false (first_of (map plain_rule rules) p)
+  pub none_first : (i : ℕ) → length rules ≤ i → ((j : ℕ) (r : plain.Rule) → j < i → At (map plain_rule rules) j r → FirstIn r p → ⊥) → Decides false (FirstOf (map plain_rule rules) p)
   none_first i past none = (
     λ e. absurd (false≢true e),
     λ (j, (r, u, here, exists, head)).

@@ -1,6 +1,6 @@
 -- Entries that are raised in turn.
 use Rattle.std.proofs.Common.{◌≡◌, ℕ, ◌+◌, ◌*◌, ◌<◌, ◌≤◌, ◌⊎◌, List, map, length, get_or, replicate, Some, None, Option, sym, refl, ◌∙◌, subst, inl, inr, ⊎_elim, arith}
-use lib.ListN.{length-replicate, get_or-replicate, length-map}
+use Rattle.std.proofs.Math.ListN.{length-replicate, get_or-replicate, length-map}
 use Rattle.std.proofs.lemmas.Bool.{cases_eq}
 use Rattle.lists.specs.Places.{At}
 use Rattle.lists.proofs.Numbered.{at_same, at_below}

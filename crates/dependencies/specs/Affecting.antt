@@ -6,8 +6,8 @@ use Rattle.theory.specs.Marks.{FirstAffected, Affected}
 use Rattle.theory.specs.Occurrences.{occurrence_of, positions_of}
 
 -- p is a head position of an existential variable of some rule
-abbrev pub first_of : List Rule → ℕ → Type 0
-first_of rules p = (i : ℕ) × FirstAffected rules i p
+abbrev pub FirstOf : List Rule → ℕ → Type 0
+FirstOf rules p = (i : ℕ) × FirstAffected rules i p
 
 -- what the step of a head occurrence of the rule waits for; nothing, and so it never comes, if there is no such occurrence or its variable is existential
 abbrev pub needs_through : Rule → Option (ℕ × ℕ) → List ℕ

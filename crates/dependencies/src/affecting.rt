@@ -4,7 +4,7 @@ ghost use Rattle.rules.specs.Views.{plain_rule, plain_side};
 ghost use Rattle.fixpoint.specs.Least.{Held};
 ghost use Rattle.fixpoint.specs.Steps.{Single};
 ghost use Rattle.theory.specs.Occurrences.{positions_of};
-ghost use Rattle.dependencies.specs.Affecting.{first_of, needs_of, leads_of, FirstIn, Affections};
+ghost use Rattle.dependencies.specs.Affecting.{FirstOf, needs_of, leads_of, FirstIn, Affections};
 
 use crate::occurrence::MOST;
 use crate::positions::Positions;
@@ -65,7 +65,7 @@ fn only_position(side: &Side, variable: u8) -> Option<usize>
 impl System for Positions<'_> {
     ghost size = { λ y. 128 };
 
-    ghost first = { λ y p. first_of (map plain_rule y.rules.now) p };
+    ghost first = { λ y p. FirstOf (map plain_rule y.rules.now) p };
 
     ghost count = { λ y. 16 * length y.rules.now };
 

@@ -1,6 +1,6 @@
 -- Simple and closed walks are short.
 use Rattle.std.proofs.Common.{ℕ, zero, suc, ◌<◌, ◌≤◌, List, [], ◌∷◌, length, refl, subst, arith}
-use lib.ListN.{length-map}
+use Rattle.std.proofs.Math.ListN.{length-map}
 use Rattle.lists.specs.Places.{At}
 use Rattle.lists.proofs.Pigeons.{once_cons, few}
 use Rattle.graphs.specs.declared.step.Step.{Step}

@@ -1,6 +1,6 @@
 -- Looking through a list for the first element that satisfies P; and the front of a table, each element seen through f.
 use Rattle.std.proofs.Common.{◌≡◌, ℕ, ◌+◌, ◌<◌, ◌≤◌, ◌≢◌, List, map, length, get_or, take, subst, ⊎_elim, arith, length-take, get_or-take}
-use lib.ListN.{length-map}
+use Rattle.std.proofs.Math.ListN.{length-map}
 use Rattle.std.proofs.lemmas.Bool.{cases_eq}
 use Rattle.lists.specs.Places.{At, First}
 use Rattle.lists.proofs.Numbered.{at_same, at_below}

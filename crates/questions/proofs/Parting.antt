@@ -1,8 +1,5 @@
 -- Where each question answers one thing, so do all: at most one turns away, at one place, and none if all answer yes.
-use mathlib.Core.Path.{◌≡◌, sym, ◌∙◌}
-use mathlib.Core.List.{List, [], ◌∷◌}
-use mathlib.Core.Logic.{inl, inr}
-use Prim.Native.Nat.{ℕ}
+use Rattle.std.proofs.Common.{◌≡◌, ℕ, List, [], ◌∷◌, sym, ◌∙◌, inl, inr}
 use Rattle.questions.specs.Asking.{AllYes, FirstNo}
 use Rattle.questions.specs.declared.question.Question.{Question}
 

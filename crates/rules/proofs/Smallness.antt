@@ -1,6 +1,6 @@
 -- The sides of rules in memory are small.
 use Rattle.std.proofs.Common.{◌≡◌, ℕ, ◌<◌, ◌≤◌, List, map, length, ◌∙◌, subst, arith, length-take}
-use lib.ListN.{length-map}
+use Rattle.std.proofs.Math.ListN.{length-map}
 use Rattle.lists.specs.Places.{At}
 use Rattle.lists.proofs.Mapped.{at_map}
 use Rattle.theory.specs.Rules.{SmallSide}

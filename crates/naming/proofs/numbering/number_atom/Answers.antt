@@ -1,5 +1,5 @@
 use Rattle.std.proofs.Common.{◌≡◌, ℕ, ◌-◌, ◌<◌, ◌≤◌, List, map, length, take, ap, subst, arith, rules}
-use lib.ListN.{length-map}
+use Rattle.std.proofs.Math.ListN.{length-map}
 use Rattle.lists.proofs.Numbered.{at_below}
 use Rattle.lists.proofs.Searching.{front_length}
 use Rattle.patterns.specs.Tables.{written, word_at, spans}

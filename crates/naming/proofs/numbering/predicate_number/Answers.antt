@@ -1,5 +1,5 @@
 use Rattle.std.proofs.Common.{List, length, sym, ap, ◌∙◌}
-use lib.ListN.{length-map}
+use Rattle.std.proofs.Math.ListN.{length-map}
 use Rattle.patterns.specs.Tables.{written, word_at, spans}
 use Rattle.patterns.specs.declared.atom.Span.{Span}
 use Rattle.naming.specs.Names.{text_at}

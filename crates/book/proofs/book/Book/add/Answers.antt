@@ -1,5 +1,5 @@
 use Rattle.std.proofs.Common.{ℕ, ◌≤◌, List, vec_items, sym, refl, ap, ◌∙◌, subst, arith, Bor}
-use lib.ListN.{length-map}
+use Rattle.std.proofs.Math.ListN.{length-map}
 use Rattle.std.proofs.lemmas.Result.{err_from_is_err_and}
 use Rattle.patterns.specs.Patterns.{Writes}
 use Rattle.patterns.specs.Asking as lines

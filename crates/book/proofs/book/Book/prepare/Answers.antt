@@ -1,5 +1,5 @@
 use Rattle.std.proofs.Common.{vec_items, refl, arith}
-use lib.ListN.{length-map}
+use Rattle.std.proofs.Math.ListN.{length-map}
 use Rattle.std.proofs.lemmas.Result.{err_from_is_err_and}
 use Rattle.lists.proofs.Searching.{front_length}
 use Rattle.patterns.specs.Tables.{word_at, side_of}

@@ -1,5 +1,5 @@
 use Rattle.std.proofs.Common.{ℕ, ◌≤◌, vec_items, sym, refl, subst, arith}
-use lib.ListN.{length-map}
+use Rattle.std.proofs.Math.ListN.{length-map}
 use Rattle.lists.proofs.Numbered.{at_below}
 use Rattle.book.specs.Books.{plain_book}
 use Rattle.book.specs.Views.{plain_entry}

@@ -1,5 +1,5 @@
 use Rattle.std.proofs.Common.{ℕ, List, length, take, sym, refl, ap, ◌∙◌, subst, arith}
-use lib.ListN.{length-map}
+use Rattle.std.proofs.Math.ListN.{length-map}
 use Rattle.std.proofs.lemmas.List.{take_all}
 use Rattle.patterns.specs.Tables.{written, word_at, spans}
 use Rattle.patterns.specs.declared.atom.Span.{Span}

@@ -4,7 +4,8 @@
 ghost use Rattle.std.specs.Prelude.{◌≡◌};
 ghost use Rattle.questions.specs.Questions.{number_of, layer_of};
 
-use question::{Layer, Question};
+use question::{Layer, Question, Refusal};
+use std::fmt;
 
 pub mod question;
 
@@ -13,30 +14,7 @@ impl Question {
     pub fn number(self) -> u8
         ensures { result ≡ number_of self }
     {
-        match self {
-            Question::Unsealed => 1,
-            Question::Sealed => 2,
-            Question::LineLength => 3,
-            Question::Bytes => 4,
-            Question::WordLength => 5,
-            Question::Pattern => 6,
-            Question::Counts => 7,
-            Question::LabelUnused => 8,
-            Question::Columns => 9,
-            Question::Predicates => 10,
-            Question::Rules => 11,
-            Question::LabelStands => 12,
-            Question::FactsKnown => 13,
-            Question::PredicateKnown => 14,
-            Question::Numbers => 15,
-            Question::Room => 16,
-            Question::ValueCount => 17,
-            Question::BodyStored => 18,
-            Question::TriggerUnmet => 19,
-            Question::Nulls => 20,
-            Question::Buffer => 21,
-            Question::Known => 22,
-        }
+        self as u8
     }
 
     // The layer that puts the question.
@@ -66,5 +44,22 @@ impl Question {
             | Question::Buffer
             | Question::Known => Layer::Book,
         }
+    }
+
+    // The refusal that a no at the place makes.
+    pub fn at(self, place: usize) -> Refusal
+        ensures question { result.question ≡ self }
+        ensures place { result.place ≡ place }
+    {
+        Refusal {
+            question: self,
+            place,
+        }
+    }
+}
+
+impl fmt::Display for Refusal {
+    fn fmt<W: fmt::Write>(&self, f: &mut fmt::Formatter<W>) -> fmt::Result {
+        write!(f, "refused {} at {}", self.question.number(), self.place)
     }
 }

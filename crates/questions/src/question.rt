@@ -1,51 +1,51 @@
-// The 22 questions, the four layers and the refusal. They stand in a file of their own, since specs/ cites them.
+// The 22 questions under their numbers, the four layers and the refusal. They stand in a file of their own, since specs/ cites them.
 
 #[derive(Clone, Copy, Debug, PartialEq, Eq)]
 pub enum Question {
     // Is the season unsealed?
-    Unsealed,
+    Unsealed = 1,
     // Is it sealed?
-    Sealed,
+    Sealed = 2,
     // Has the line at most 400 bytes?
-    LineLength,
+    LineLength = 3,
     // Does every byte belong to a token or a blank?
-    Bytes,
+    Bytes = 4,
     // Has every word at most 8 bytes?
-    WordLength,
+    WordLength = 5,
     // Do the tokens follow the pattern?
-    Pattern,
+    Pattern = 6,
     // Are there at most four atoms a side, four words an atom's brackets?
-    Counts,
+    Counts = 7,
     // Is the label unused by standing rules?
-    LabelUnused,
+    LabelUnused = 8,
     // Has each predicate its known columns, or those of its first atom in this line?
-    Columns,
+    Columns = 9,
     // Would at most 32 predicates be known?
-    Predicates,
+    Predicates = 10,
     // Do fewer than 64 rules stand?
-    Rules,
+    Rules = 11,
     // Does a standing rule carry the label?
-    LabelStands,
+    LabelStands = 12,
     // Has each fact in the store a known predicate, its columns, and values up to 32,767?
-    FactsKnown,
+    FactsKnown = 13,
     // Is the predicate known?
-    PredicateKnown,
+    PredicateKnown = 14,
     // Are the words in brackets decimal numbers up to 32,767?
-    Numbers,
+    Numbers = 15,
     // Do the different facts not yet in the store fit its limit?
-    Room,
+    Room = 16,
     // Are there as many values as body variables?
-    ValueCount,
+    ValueCount = 17,
     // Is each body atom, so valued, in the store?
-    BodyStored,
+    BodyStored = 18,
     // Is the trigger unmet?
-    TriggerUnmet,
+    TriggerUnmet = 19,
     // Would at most 1,024 nulls have been born?
-    Nulls,
+    Nulls = 20,
     // Has the witness buffer at least 5,104 steps?
-    Buffer,
+    Buffer = 21,
     // Is the position, or the null, known?
-    Known,
+    Known = 22,
 }
 
 #[derive(Clone, Copy, Debug, PartialEq, Eq)]

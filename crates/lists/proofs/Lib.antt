@@ -2,6 +2,7 @@ pub mod Deciding
 pub mod Elements
 pub mod Fronts
 pub mod Joining
+pub mod Leading
 pub mod Mapped
 pub mod Numbered
 pub mod Pigeons

@@ -5,7 +5,7 @@ use Rattle.std.specs.Option.{option_or}
 use Rattle.tokens.specs.Tokens.{word_byte, Token, token_at, Between, Stray}
 use Rattle.tokens.specs.Tokens.Kind.{word}
 use Rattle.tokens.specs.Tokens.Between.{none, blank as space}
-use Rattle.tokens.specs.Reach.{Passes, Reach}
+use Rattle.tokens.specs.Reach.{Passes, Reach, Reaches}
 use Rattle.tokens.specs.Reach.Passes.{blank, token}
 use Rattle.tokens.proofs.Steps.{between_join, between_snoc}
 
@@ -35,8 +35,9 @@ closed s due f stops =
     (λ ne. passed s f.at due f.read (token word (record { some = let b = f.from in omega (arith, ne); within = f.within; all = f.all; stops = stops })))
     (cases_eq f.at due)
 
-step : (s : List ℕ) (i n : ℕ) → Front s i → Reach s i n → 0 < n → Front s (i + n)
-step s i n f r h =
+step : (s : List ℕ) (i n : ℕ) → Front s i → Reach s i n → Front s (i + n)
+step s i n f r =
+    let h = r.some in
     ⊎_elim
     (λ w. let one : n ≡ 1 = r.letter w in record {
       at = f.at;
@@ -45,14 +46,11 @@ step s i n f r h =
       within = r.within;
       all = λ k a b. ⊎_elim (λ lt. f.all k a lt) (λ ge. let e : i ≡ k = omega arith in subst (λ j. word_byte (get_or s j 0) ≡ true) e w) (cases_lt k i);
     })
-    (λ w. record { at = i + n; read = passed s i (i + n) (closed s i f (λ _. w)) (r.mark w h); from = omega arith; within = r.within; all = λ k a b. absurd (omega arith) })
+    (λ w. record { at = i + n; read = passed s i (i + n) (closed s i f (λ _. w)) (r.mark w); from = omega arith; within = r.within; all = λ k a b. absurd (omega arith) })
     (cases_Bool (word_byte (get_or s i 0)))
 
-stray : (s : List ℕ) (i : ℕ) → Front s i → Reach s i 0 → Stray s i
-stray s i f r = record {
-  before = closed s i f (λ _. ⊎_elim (λ w. absurd (let e : ◌≡◌ {A = ℕ} 0 1 = r.letter w in omega arith)) (λ w. w) (cases_Bool (word_byte (get_or s i 0))));
-  here = r.nothing refl;
-}
+stray : (s : List ℕ) (i : ℕ) → Front s i → Reaches s i None → Stray s i
+stray s i f (w, n) = record { before = closed s i f (λ _. w); here = n }
 
 -- what the loop keeps at i: the first stray byte, or that all before due is read
 abbrev pub Held : List ℕ → Option ℕ → ℕ → ℕ → Type 0
@@ -65,14 +63,14 @@ pub held_passed : (s : List ℕ) (bad : Option ℕ) (due i : ℕ) → Held s bad
 held_passed s None due i h l = (h.0, omega arith)
 held_passed s (Some p) due i h l = h
 
-pub held_step : (s : List ℕ) (bad : Option ℕ) (due i n : ℕ) → Held s bad due i → due ≤ i → 0 < n → Reach s i n → Held s bad (i + n) (i + 1)
-held_step s None due i n h l o r = (step s i n (subst (Front s) (omega (arith, h.1)) h.0) r o, omega arith)
-held_step s (Some p) due i n h l o r = h
+pub held_step : (s : List ℕ) (bad : Option ℕ) (due i n : ℕ) → Held s bad due i → due ≤ i → Reach s i n → Held s bad (i + n) (i + 1)
+held_step s None due i n h l r = let o = r.some in (step s i n (subst (Front s) (omega (arith, h.1)) h.0) r, omega arith)
+held_step s (Some p) due i n h l r = h
 
 -- the first stray byte is kept
-pub held_stray : (s : List ℕ) (bad : Option ℕ) (due i n : ℕ) → Held s bad due i → due ≤ i → n ≡ 0 → Reach s i n → Held s (option_or bad (Some i)) (i + n) (i + 1)
-held_stray s None due i n h l z r = stray s i (subst (Front s) (omega (arith, h.1)) h.0) (subst (Reach s i) z r)
-held_stray s (Some p) due i n h l z r = h
+pub held_stray : (s : List ℕ) (bad : Option ℕ) (due i : ℕ) → Held s bad due i → due ≤ i → Reaches s i None → Held s (option_or bad (Some i)) due (i + 1)
+held_stray s None due i h l r = stray s i (subst (Front s) (omega (arith, h.1)) h.0) r
+held_stray s (Some p) due i h l r = h
 
 pub held_last : (s : List ℕ) (bad : Option ℕ) (due i : ℕ) → Held s bad due i → length s ≤ i → MatchOption bad (Read s (length s)) (λ p. Stray s p)
 held_last s None due i h l = closed s (length s) (subst (Front s) (let w = h.0.within in omega (arith, h.1)) h.0) (λ m. absurd (omega arith))

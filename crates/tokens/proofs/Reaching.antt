@@ -12,7 +12,7 @@ passes_within s i e (blank (h, _) q) = omega arith
 passes_within s i e (token k l) = lies_within s i e k l
 
 reach_passes : (s : List ℕ) (i n b : ℕ) → get_or s i 0 ≡ b → word_byte b ≡ false → 0 < n → Passes s i (i + n) → Reach s i n
-reach_passes s i n b q w h p = record { within = passes_within s i (i + n) p; letter = λ t. absurd (both_ways _ (ap word_byte q ∙ w) t); mark = λ _ _. p; nothing = λ z. absurd (omega arith) }
+reach_passes s i n b q w h p = record { some = h; within = passes_within s i (i + n) p; letter = λ t. absurd (both_ways _ (ap word_byte q ∙ w) t); mark = λ _. p }
 
 pub reach_arrow : (s : List ℕ) (i : ℕ) → Lies s i (i + 2) arrow → Reach s i 2
 unfolding word_byte
@@ -24,7 +24,7 @@ reach_bars s i l = reach_passes s i 3 124 l.0.1 refl (omega arith) (token bars l
 
 pub reach_single : (s : List ℕ) (i : ℕ) → i < length s → Single (get_or s i 0) → Reach s i 1
 unfolding word_byte
-reach_single s i h (inl w) = record { within = omega arith; letter = λ _. refl; mark = λ f _. absurd (both_ways _ f w); nothing = λ z. absurd (omega arith) }
+reach_single s i h (inl w) = record { some = omega arith; within = omega arith; letter = λ _. refl; mark = λ f. absurd (both_ways _ f w) }
 reach_single s i h (inr (inl q)) = reach_passes s i 1 32 q refl (omega arith) (blank (h, q) refl)
 reach_single s i h (inr (inr (inl q))) = reach_passes s i 1 40 q refl (omega arith) (token opens ((h, q), refl))
 reach_single s i h (inr (inr (inr (inl q)))) = reach_passes s i 1 41 q refl (omega arith) (token closes ((h, q), refl))

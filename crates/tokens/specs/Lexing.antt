@@ -10,7 +10,7 @@ use Rattle.tokens.specs.declared.token.Token.{Token}
 use Rattle.tokens.specs.declared.token.Token.TheVariants.{Word, Bars, Arrow, Open, Close, Comma, Stop}
 
 abbrev pub kind_of : Token → Kind
-kind_of (Word text p) = word
+kind_of (Word w) = word
 kind_of (Bars p) = bars
 kind_of (Arrow p) = arrow
 kind_of (Open p) = opens
@@ -19,7 +19,7 @@ kind_of (Comma p) = comma
 kind_of (Stop p) = stop
 
 abbrev pub place_of : Token → ℕ
-place_of (Word text p) = p
+place_of (Word w) = w.place
 place_of (Bars p) = p
 place_of (Arrow p) = p
 place_of (Open p) = p
@@ -29,7 +29,7 @@ place_of (Stop p) = p
 
 -- a word is handed out as the line's own memory
 abbrev pub Borrows : Bor (List ℕ) → ℕ → ℕ → Token → Type 0
-Borrows line i e (Word text p) = Part line text i (e - i)
+Borrows line i e (Word w) = Part line w.text i (e - i)
 Borrows line i e (Bars p) = Unit {0}
 Borrows line i e (Arrow p) = Unit {0}
 Borrows line i e (Open p) = Unit {0}

@@ -1,6 +1,6 @@
 // The byte check: does every byte of a line belong to a token or a blank?
 ghost use Rattle.std.specs.Prelude.{◌<◌, List, length, Decides, MatchOption};
-ghost use Rattle.tokens.specs.Reach.{Single, Reach};
+ghost use Rattle.tokens.specs.Reach.{Single, Reaches};
 ghost use Rattle.tokens.specs.Tokens.{Token, Tokens, Stray, Determined};
 
 use crate::{is_arrow, is_bars, is_word_byte};
@@ -9,22 +9,22 @@ use crate::{is_arrow, is_bars, is_word_byte};
 fn is_single(b: u8) -> bool
     ensures { Decides result (Single b) }
 {
-    is_word_byte(b) || b == b' ' || b == b'(' || b == b')' || b == b',' || b == b'.'
+    is_word_byte(b) || matches!(b, b' ' | b'(' | b')' | b',' | b'.')
 }
 
-// How many bytes from `at` on are passed at once; 0 if the byte there belongs to no token.
-fn reach(line: &[u8], at: usize) -> usize
+// How many bytes from `at` on are passed at once; none if the byte there belongs to no token.
+fn reach(line: &[u8], at: usize) -> Option<usize>
     requires { at < length line.now }
-    ensures { Reach line.now at result }
+    ensures { Reaches line.now at result }
 {
     if is_single(line[at]) {
-        1
+        Some(1)
     } else if is_arrow(line, at) {
-        2
+        Some(2)
     } else if is_bars(line, at) {
-        3
+        Some(3)
     } else {
-        0
+        None
     }
 }
 
@@ -36,13 +36,13 @@ pub fn first_stray(line: &[u8]) -> Option<usize>
     let mut stray = None;
     // What lies before it belongs to a mark that was passed whole.
     let mut due = 0;
+    // By number, since a place is what is told, and a mark is passed whole.
     for i in 0..line.len() {
         if due <= i {
-            let n = reach(line, i);
-            if n == 0 {
-                stray = stray.or(Some(i));
+            match reach(line, i) {
+                Some(n) => due = i + n,
+                None => stray = stray.or(Some(i)),
             }
-            due = i + n;
         }
     }
     stray

@@ -1,12 +1,21 @@
 // The lexer: the tokens of a line one by one, from the left.
-ghost use Rattle.std.specs.Prelude.{◌≡◌, ◌<◌, ◌≤◌, length, MatchResult};
+ghost use Rattle.std.specs.Prelude.{◌≡◌, ◌==◌, ◌<◌, ◌≤◌, length, MatchResult};
+ghost use Rattle.std.specs.List.{prefix_len};
 ghost use Rattle.questions.specs.declared.question.Question.TheVariants.{Bytes};
 ghost use Rattle.tokens.specs.Tokens.{Byte, NothingAt};
 ghost use Rattle.tokens.specs.Lexing.{place_of, Is, Blanks, Next};
 
-use crate::token::Token;
+use crate::token::{Token, Word};
 use crate::{is_arrow, is_bars, is_word_byte, part, run_end};
 use questions::question::{Question, Refusal};
+
+// How many of the bytes, from the first on, are blanks.
+fn blanks(bytes: &[u8]) -> usize
+    ensures count { result ≡ prefix_len (λ b. b == 32) bytes.now }
+    ensures fits { result ≤ length bytes.now }
+{
+    bytes.iter().take_while(|b| **b == b' ').count()
+}
 
 // Where the blanks from `at` on end.
 fn skip_blanks(line: &[u8], at: usize) -> usize
@@ -14,12 +23,7 @@ fn skip_blanks(line: &[u8], at: usize) -> usize
     ensures blanks { Blanks line.now at result }
     ensures all { Byte line.now result 32 → ⊥ }
 {
-    for i in at..line.len() {
-        if line[i] != b' ' {
-            return i;
-        }
-    }
-    line.len()
+    at + blanks(&line[at..])
 }
 
 // The token at a place where no blank stands, and where it ends.
@@ -37,12 +41,9 @@ fn token_at<'a>(line: &'a [u8], place: usize) -> Result<(Token<'a>, usize), Refu
         b if is_word_byte(b) => {
             let end = run_end(line, place);
             let text = part(line, place, end);
-            Ok((Token::Word { text, place }, end))
+            Ok((Token::Word(Word { text, place }), end))
         }
-        _ => Err(Refusal {
-            question: Question::Bytes,
-            place,
-        }),
+        _ => Err(Question::Bytes.at(place)),
     }
 }
 
@@ -85,8 +86,8 @@ impl<'a> Token<'a> {
         ensures { result ≡ place_of self.now }
     {
         match *self {
-            Token::Word { place, .. }
-            | Token::Bars(place)
+            Token::Word(word) => word.place,
+            Token::Bars(place)
             | Token::Arrow(place)
             | Token::Open(place)
             | Token::Close(place)

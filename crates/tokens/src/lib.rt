@@ -2,6 +2,7 @@
 #![tactic(auto)]
 
 ghost use Rattle.std.specs.Prelude.{◌≡◌, ◌+◌, ◌-◌, ◌<◌, ◌≤◌, true, length, Decides, slice_index};
+ghost use Rattle.std.specs.List.{prefix_len};
 ghost use Rattle.lists.specs.Parts.{Part};
 ghost use Rattle.tokens.specs.Tokens.{word_byte, Run, Lies};
 ghost use Rattle.tokens.specs.Tokens.Kind.{bars, arrow};
@@ -25,29 +26,32 @@ fn part<'a>(line: &'a [u8], from: usize, to: usize) -> &'a [u8]
     &line[from..to]
 }
 
+// How many of the bytes, from the first on, are bytes of a word.
+fn word_length(bytes: &[u8]) -> usize
+    ensures count { result ≡ prefix_len word_byte bytes.now }
+    ensures fits { result ≤ length bytes.now }
+{
+    bytes.iter().take_while(|b| is_word_byte(**b)).count()
+}
+
 // Where the run of word bytes that holds `from` ends.
 fn run_end(line: &[u8], from: usize) -> usize
     requires { (from < length line.now) × (word_byte (slice_index line.now from) ≡ true) }
     ensures { Run line.now from result }
 {
-    for i in from..line.len() {
-        if !is_word_byte(line[i]) {
-            return i;
-        }
-    }
-    line.len()
+    from + word_length(&line[from..])
 }
 
 fn is_arrow(line: &[u8], at: usize) -> bool
     requires { at < length line.now }
     ensures { Decides result (Lies line.now at (at + 2) arrow) }
 {
-    line[at] == b'-' && line.len() - at > 1 && line[at + 1] == b'>'
+    line[at..].starts_with(b"->")
 }
 
 fn is_bars(line: &[u8], at: usize) -> bool
     requires { at < length line.now }
     ensures { Decides result (Lies line.now at (at + 3) bars) }
 {
-    line[at] == b'|' && line.len() - at > 2 && line[at + 1] == b'|' && line[at + 2] == b'|'
+    line[at..].starts_with(b"|||")
 }

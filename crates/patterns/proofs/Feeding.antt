@@ -1,12 +1,14 @@
 -- The reader's state and tables go along with the drafts of the pattern machine.
-use Rattle.std.proofs.Common.{◌≡◌, ℕ, ◌-◌, ◌≤◌, List, [], ◌∷◌, ◌++◌, length, take, drop, Some, None, Ok, Option, sym, refl, ap, ◌∙◌, subst, arith, Bor}
+use Rattle.std.proofs.Common.{◌≡◌, ℕ, ◌-◌, ◌≤◌, List, [], ◌∷◌, ◌++◌, Some, None, Ok, Option, sym, refl, ap, ◌∙◌, subst, arith, Bor}
 use Rattle.std.specs.Option.{option_map}
 use Rattle.tokens.specs.Tokens as plain
 use Rattle.tokens.specs.Tokens.{Kind, token_at}
 use Rattle.tokens.specs.Tokens.Kind.{word, bars, arrow, opens, closes, comma, stop}
-use Rattle.tokens.specs.Lexing.{kind_of}
+use Rattle.tokens.specs.Lexing.{kind_of, Is}
 use Rattle.tokens.specs.declared.token.Token.{Token}
-use Rattle.tokens.specs.declared.token.Token.TheVariants.{Word, Bars, Arrow, Open, Close, Comma, Stop}
+use Rattle.tokens.specs.declared.token.Word.{Word}
+use Rattle.tokens.specs.declared.token.Token.TheVariants as token
+use Rattle.tokens.specs.declared.token.Token.TheVariants.{Bars, Arrow, Open, Close, Comma, Stop}
 use Rattle.tokens.proofs.Unique.{lies_longer}
 use Rattle.patterns.specs.Patterns.{Written}
 use Rattle.patterns.specs.Patterns.Line.{rule_line, fact_line}
@@ -15,11 +17,11 @@ use Rattle.patterns.specs.Machine.Side.{body, head}
 use Rattle.patterns.specs.Machine.Context.{in_side, in_fact}
 use Rattle.patterns.specs.Machine.Draft.{at_label, at_bars, at_name, at_open, at_word, at_more, after, after_fact, done}
 use Rattle.patterns.proofs.Machines.{pick, none, some_same}
-use Rattle.patterns.specs.declared.atom.Span.{Span}
 use Rattle.patterns.specs.declared.reader.Tables.{Tables}
 use Rattle.patterns.specs.declared.reader.Reader.{Reader}
 use Rattle.patterns.specs.declared.state.State.{State}
-use Rattle.patterns.specs.Tables.{word_at}
+use Rattle.lists.specs.Parts.{Part}
+use Rattle.patterns.specs.Tables.{word_of, PartOf}
 use Rattle.patterns.specs.Drafts.{go, state_of, Parts, with_atom, parts, grown, Held, Noted, Same, Advanced, Fed}
 use Rattle.patterns.proofs.Growing.{push_last}
 
@@ -98,32 +100,36 @@ grew (done l) t k = no_draft (done l) t k
 -- ---- one token
 
 -- what is held stays so at a later place
-pub later : (s : List ℕ) (t : Tables) (extra : Option ℕ) (x : Parts) (at e : ℕ) → Held s t extra x at → at ≤ e → Held s t extra x e
-later s t None x at e h l = h
-later s t (Some p) x at e h l = record { word = h.word; extra = h.extra; place = h.place; least = h.least; reached = let b = h.reached in omega arith }
+pub later : (line : Bor (List ℕ)) (t : Tables) (extra : Option ℕ) (x : Parts) (at e : ℕ) → Held line t extra x at → at ≤ e → Held line t extra x e
+later line t None x at e h l = h
+later line t (Some p) x at e h l = record { word = h.word; extra = h.extra; place = h.place; least = h.least; reached = let b = h.reached in omega arith }
 
--- the span of a word token is the token
-spanned : (s : List ℕ) (w : Span) (a e : ℕ) → w.place ≡ a → w.len ≡ e - a → word_at s w ≡ token_at s a e word
-spanned s w a e p l = ap (λ (x : ℕ). record { kind = word; place = x; text = take w.len (drop x s) }) p ∙ ap (λ (x : ℕ). record { kind = word; place = a; text = take x (drop a s) }) l
+-- what is held is held in the same tables
+held_same : (line : Bor (List ℕ)) (old new : Reader) (x : Parts) (at : ℕ) → Same old new → Held line old.tables old.extra x at → Held line new.tables new.extra x at
+held_same line old new x at same h = subst (λ t. Held line t new.extra x at) (sym same.tables) (subst (λ e. Held line old.tables e x at) (sym same.extra) h)
 
-pub fed_word : (old mid new : Reader) (text : Bor (List ℕ)) (p : ℕ) → Advanced old (Word text p) mid (Ok tt) → Same old mid
-    → Noted old.state (record { place = p; len = length text.now }) mid new → new.state ≡ mid.state → Fed old (Word text p) new (Ok tt)
-fed_word old mid new text p adv same noted st line d at a e sh l is =
+-- a word token is the token that lies there, and the line's own memory
+worded_as : (line : Bor (List ℕ)) (w : Word) (a e : ℕ) → Is line a e (token.Word w) → word_of w ≡ token_at line.now a e word
+worded_as line w a e is = ap (λ (x : ℕ). record { kind = word; place = x; text = w.text.now }) is.place ∙ ap (λ (x : List ℕ). record { kind = word; place = a; text = x }) is.borrows.holds
+
+part_of : (line : Bor (List ℕ)) (w : Word) (a e : ℕ) → Is line a e (token.Word w) → PartOf line w
+part_of line w a e is = subst (λ n. Part line w.text w.place n) (sym is.borrows.long) (subst (λ n. Part line w.text n (e - a)) (sym is.place) is.borrows)
+
+pub fed_word : (old mid new : Reader) (w : Word) → Advanced old (token.Word w) mid (Ok tt) → Same old mid → Noted old.state w mid new → new.state ≡ mid.state → Fed old (token.Word w) new (Ok tt)
+fed_word old mid new w adv same noted st line d at a e sh l is =
     let s = line.now in
     let t = token_at s a e word in
-    let w : Span = record { place = p; len = length text.now } in
     let (f, m, u) = went d t word mid.state (subst (λ x. go x word ≡ Some mid.state) sh.state adv) in
-    let held : Held s mid.tables mid.extra (parts d) at = subst (λ x. Held s x mid.extra (parts d) at) (sym same.tables) (subst (λ x. Held s old.tables x (parts d) at) (sym same.extra) sh.held) in
-    let place : p ≡ a = is.place in
-    let more = noted s (parts d) at held (omega arith) in
-    let grown_as : grown old.state (parts d) (word_at s w) ≡ parts f =
-    ap (λ (x : State). grown x (parts d) (word_at s w)) sh.state ∙ ap (grown (state_of d) (parts d)) (spanned s w a e place is.borrows.long) ∙ sym (grew d t word f m) in
+    let place : w.place ≡ a = is.place in
+    let more = noted line (parts d) at (part_of line w a e is) (held_same line old mid (parts d) at same sh.held) (omega arith) in
+    let grown_as : grown old.state (parts d) (word_of w) ≡ parts f =
+    ap (λ (x : State). grown x (parts d) (word_of w)) sh.state ∙ ap (grown (state_of d) (parts d)) (worded_as line w a e is) ∙ sym (grew d t word f m) in
     let e_after = lies_longer s a e word is.lies in
-    (f, m, record { state = st ∙ u; held = later s new.tables new.extra (parts f) p e (subst (λ x. Held s new.tables new.extra x p) grown_as more) (omega arith) })
+    (f, m, record { state = st ∙ u; held = later line new.tables new.extra (parts f) w.place e (subst (λ x. Held line new.tables new.extra x w.place) grown_as more) (omega arith) })
 
 -- a token that is no word
-mark_held : (t : Token) → ((text : Bor (List ℕ)) (p : ℕ) → t ≡ Word text p → ⊥) → (st : State) (x : Parts) (u : plain.Token) → grown_by (kind_of t) st x u ≡ x
-mark_held (Word text p) n st x u = absurd (n text p refl)
+mark_held : (t : Token) → ((w : Word) → t ≡ token.Word w → ⊥) → (st : State) (x : Parts) (u : plain.Token) → grown_by (kind_of t) st x u ≡ x
+mark_held (token.Word w) n st x u = absurd (n w refl)
 mark_held (Bars p) n st x u = refl
 mark_held (Arrow p) n st x u = refl
 mark_held (Open p) n st x u = refl
@@ -131,12 +137,11 @@ mark_held (Close p) n st x u = refl
 mark_held (Comma p) n st x u = refl
 mark_held (Stop p) n st x u = refl
 
-pub fed_mark : (old new : Reader) (t : Token) → ((text : Bor (List ℕ)) (p : ℕ) → t ≡ Word text p → ⊥) → Advanced old t new (Ok tt) → Same old new → Fed old t new (Ok tt)
+pub fed_mark : (old new : Reader) (t : Token) → ((w : Word) → t ≡ token.Word w → ⊥) → Advanced old t new (Ok tt) → Same old new → Fed old t new (Ok tt)
 fed_mark old new t no_word adv same line d at a e sh l is =
     let s = line.now in
     let u = token_at s a e (kind_of t) in
     let (f, m, q) = went d u (kind_of t) new.state (subst (λ x. go x (kind_of t) ≡ Some new.state) sh.state adv) in
-    let held : Held s new.tables new.extra (parts d) at = subst (λ x. Held s x new.extra (parts d) at) (sym same.tables) (subst (λ x. Held s old.tables x (parts d) at) (sym same.extra) sh.held) in
     let kept : parts d ≡ parts f = sym (mark_held t no_word (state_of d) (parts d) u) ∙ sym (grew d u (kind_of t) f m) in
     let e_after = lies_longer s a e (kind_of t) is.lies in
-    (f, m, record { state = q; held = later s new.tables new.extra (parts f) at e (subst (λ x. Held s new.tables new.extra x at) kept held) (omega arith) })
+    (f, m, record { state = q; held = later line new.tables new.extra (parts f) at e (subst (λ x. Held line new.tables new.extra x at) kept (held_same line old new (parts d) at same sh.held)) (omega arith) })

@@ -1,5 +1,5 @@
 -- How the reader's state and tables stand for a draft of the pattern machine.
-use Rattle.std.specs.Prelude.{◌≡◌, ℕ, ◌≤◌, Bool, ◌⊎◌, List, [], ◌∷◌, ◌++◌, Some, None, Ok, Err, MatchBool, Option, Result, MatchOption, ◌≢◌}
+use Rattle.std.specs.Prelude.{◌≡◌, ℕ, ◌≤◌, ◌⊎◌, List, [], ◌∷◌, ◌++◌, Some, None, Ok, Err, Option, Result, MatchOption, MatchResult, ◌≢◌}
 use Rattle.std.specs.Borrow.{Bor}
 use Rattle.questions.specs.declared.question.Refusal.{Refusal}
 use Rattle.questions.specs.declared.question.Question.TheVariants.{Pattern, Counts}
@@ -18,10 +18,11 @@ use Rattle.patterns.specs.declared.state.Section.{Section}
 use Rattle.patterns.specs.declared.state.Section.TheVariants.{Body, Head, Fact}
 use Rattle.patterns.specs.declared.state.State.{State}
 use Rattle.patterns.specs.declared.state.State.TheVariants as state
-use Rattle.patterns.specs.declared.atom.Span.{Span}
+use Rattle.tokens.specs.declared.token.Word.{Word}
+use Rattle.bounded.specs.declared.Full.{Full}
 use Rattle.patterns.specs.declared.reader.Tables.{Tables}
 use Rattle.patterns.specs.declared.reader.Reader.{Reader}
-use Rattle.patterns.specs.Tables.{word_at, side_of, SoundSide}
+use Rattle.patterns.specs.Tables.{word_of, side_of, PartOf, SidePartOf, FewIn}
 
 -- the state after a token of kind k; the columns are word, bars, arrow, opens, closes, comma, stop
 abbrev pub go : State → Kind → Option State
@@ -122,17 +123,19 @@ grown (state.More p) x t = x
 grown (state.After p) x t = x
 grown state.Done x t = x
 
--- the tables hold the parts
-abbrev pub Labelled : List plain.Token → plain.Token → Type 0
-Labelled [] t = Unit {0}
-Labelled (l ∷ more) t = t ≡ l
+-- the tables hold the parts, in words that are the line's own memory
+abbrev pub Labelled : Bor (List ℕ) → List plain.Token → Word → Type 0
+Labelled line [] w = Unit {0}
+Labelled line (l ∷ more) w = (word_of w ≡ l) × PartOf line w
 
-pub record Keeps (s : List ℕ) (tables : Tables) (x : Parts) : Type 0 where
-  pub label : Labelled x.label (word_at s tables.label)
-  pub first : side_of s tables.body ≡ x.first
-  pub second : side_of s tables.head ≡ x.second
-  pub body_sound : SoundSide tables.body
-  pub head_sound : SoundSide tables.head
+pub record Keeps (line : Bor (List ℕ)) (tables : Tables) (x : Parts) : Type 0 where
+  pub label : Labelled line x.label tables.label
+  pub first : side_of tables.body ≡ x.first
+  pub second : side_of tables.head ≡ x.second
+  pub body_few : FewIn tables.body
+  pub head_few : FewIn tables.head
+  pub body_part : SidePartOf line tables.body
+  pub head_part : SidePartOf line tables.head
 
 -- a word too many among the parts
 abbrev pub both : Parts → List (List Written)
@@ -150,23 +153,23 @@ pub record FirstExtra (x : Parts) (at p : ℕ) : Type 0 where
   pub reached : p ≤ at
 
 -- the tables hold the parts, or a word is too many
-abbrev pub Held : List ℕ → Tables → Option ℕ → Parts → ℕ → Type 0
-Held s tables extra x at = MatchOption extra (Keeps s tables x) (λ p. FirstExtra x at p)
+abbrev pub Held : Bor (List ℕ) → Tables → Option ℕ → Parts → ℕ → Type 0
+Held line tables extra x at = MatchOption extra (Keeps line tables x) (λ p. FirstExtra x at p)
 
 -- the reader stands for the draft of what lies before the place at
-pub record Shows (s : List ℕ) (r : Reader) (d : Draft) (at : ℕ) : Type 0 where
+pub record Shows (line : Bor (List ℕ)) (r : Reader) (d : Draft) (at : ℕ) : Type 0 where
   pub state : r.state ≡ state_of d
-  pub held : Held s r.tables r.extra (parts d) at
+  pub held : Held line r.tables r.extra (parts d) at
 
--- the word is kept; or it is one too many
-abbrev pub Kept : State → Span → Tables → Tables → Bool → Type 0
-Kept st w old new r = (s : List ℕ) (x : Parts) → Keeps s old x
-    → MatchBool r (Keeps s new (grown st x (word_at s w))) (ExtraIn (grown st x (word_at s w)) (word_at s w))
+-- a word of the line is kept; or it is one too many
+abbrev pub Kept : State → Word → Tables → Tables → Result (Unit {0}) Full → Type 0
+Kept st w old new r = (line : Bor (List ℕ)) (x : Parts) → PartOf line w → Keeps line old x
+    → MatchResult r (λ _. Keeps line new (grown st x (word_of w))) (λ _. ExtraIn (grown st x (word_of w)) (word_of w))
 
--- what a word makes of what is held
-abbrev pub Noted : State → Span → Reader → Reader → Type 0
-Noted st w old new = (s : List ℕ) (x : Parts) (at : ℕ) → Held s old.tables old.extra x at → at ≤ w.place
-    → Held s new.tables new.extra (grown st x (word_at s w)) w.place
+-- what a word of the line makes of what is held
+abbrev pub Noted : State → Word → Reader → Reader → Type 0
+Noted st w old new = (line : Bor (List ℕ)) (x : Parts) (at : ℕ) → PartOf line w → Held line old.tables old.extra x at → at ≤ w.place
+    → Held line new.tables new.extra (grown st x (word_of w)) w.place
 
 -- nothing changes but the state
 pub record Same (old new : Reader) : Type 0 where
@@ -180,9 +183,9 @@ Advanced old t new (Err x) = (go old.state (kind_of t) ≡ None) × (x.question 
 
 -- the token is taken, and the draft goes on; or it cannot stand there
 abbrev pub Fed : Reader → Token → Reader → Result (Unit {0}) Refusal → Type 0
-Fed old t new (Ok u) = (line : Bor (List ℕ)) (d : Draft) (at a e : ℕ) → Shows line.now old d at → at ≤ a → Is line a e t
-    → (f : Draft) × (step d (token_at line.now a e (kind_of t)) ≡ Some f) × Shows line.now new f e
-Fed old t new (Err x) = (line : Bor (List ℕ)) (d : Draft) (at a e : ℕ) → Shows line.now old d at → at ≤ a → Is line a e t
+Fed old t new (Ok u) = (line : Bor (List ℕ)) (d : Draft) (at a e : ℕ) → Shows line old d at → at ≤ a → Is line a e t
+    → (f : Draft) × (step d (token_at line.now a e (kind_of t)) ≡ Some f) × Shows line new f e
+Fed old t new (Err x) = (line : Bor (List ℕ)) (d : Draft) (at a e : ℕ) → Shows line old d at → at ≤ a → Is line a e t
     → (step d (token_at line.now a e (kind_of t)) ≡ None) × (x.question ≡ Pattern) × (x.place ≡ a)
 
 -- the reader is done and hands out its tables; or the line of this length ended early, or a word is too many

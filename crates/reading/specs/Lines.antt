@@ -15,7 +15,7 @@ use Rattle.patterns.specs.Asking.Asked.{pattern, counts}
 use Rattle.patterns.specs.declared.reader.Tables.{Tables}
 use Rattle.reading.specs.declared.line.RuleLine.{RuleLine}
 use Rattle.reading.specs.declared.line.FactLine.{FactLine}
-use Rattle.patterns.specs.Tables.{word_at, written, side_of}
+use Rattle.patterns.specs.Tables.{word_of, written, side_of, PartOf, AtomPartOf, SidePartOf}
 use Rattle.patterns.specs.Drafts.{Keeps, line_parts}
 
 -- one question is put: yes, or no at the refusal's place
@@ -25,7 +25,7 @@ Answers form s x (Err e) = No form s x e.place × (question_of x ≡ e.question)
 
 -- a word of more than 8 bytes
 abbrev pub Long : Token → Type 0
-Long (Word text p) = 8 < length text.now
+Long (Word w) = 8 < length w.text.now
 Long (Bars p) = ⊥
 Long (Arrow p) = ⊥
 Long (Open p) = ⊥
@@ -38,31 +38,37 @@ Judged t (Ok u) = Long t → ⊥
 Judged t (Err e) = Long t × (e.question ≡ WordLength) × (e.place ≡ place_of t)
 
 -- the tables hold what the line writes, and nothing in it is too many
-abbrev pub Spells : Form → List ℕ → Tables → Type 0
-Spells form s t = (l : Line) × Writes form s l × Keeps s t (line_parts l) × Yes form s counts
+abbrev pub Spells : Form → Bor (List ℕ) → Tables → Type 0
+Spells form line t = (l : Line) × Writes form line.now l × Keeps line t (line_parts l) × Yes form line.now counts
 
 -- the last two questions: the pattern, and the counts
-abbrev pub Patterned : Form → List ℕ → Result Tables Refusal → Type 0
-Patterned form s (Ok t) = Spells form s t
-Patterned form s (Err e) = (No form s pattern e.place × (Pattern ≡ e.question)) ⊎ (Yes form s pattern × No form s counts e.place × (Counts ≡ e.question))
+abbrev pub Patterned : Form → Bor (List ℕ) → Result Tables Refusal → Type 0
+Patterned form line (Ok t) = Spells form line t
+Patterned form line (Err e) = (No form line.now pattern e.place × (Pattern ≡ e.question)) ⊎ (Yes form line.now pattern × No form line.now counts e.place × (Counts ≡ e.question))
 
 -- the whole line
-abbrev pub Read : Form → List ℕ → Result Tables Refusal → Type 0
-Read form s (Ok t) = Passes form s × Spells form s t
-Read form s (Err e) = Turned form s e.question e.place
+abbrev pub Read : Form → Bor (List ℕ) → Result Tables Refusal → Type 0
+Read form line (Ok t) = Passes form line.now × Spells form line t
+Read form line (Err e) = Turned form line.now e.question e.place
 
 -- what a rule line and a fact line that are read write
 abbrev pub rule_of : RuleLine → Line
-rule_of r = rule_line (word_at r.line.now r.label) (side_of r.line.now r.body) (side_of r.line.now r.head)
+rule_of r = rule_line (word_of r.label) (side_of r.body) (side_of r.head)
 
 abbrev pub fact_of : FactLine → Line
-fact_of f = fact_line (written f.line.now f.atom)
+fact_of f = fact_line (written f.atom)
+
+-- all words of the rule line are the line's own memory
+pub record RulePartOf (line : Bor (List ℕ)) (r : RuleLine) : Type 0 where
+  pub label : PartOf line r.label
+  pub body : SidePartOf line r.body
+  pub head : SidePartOf line r.head
 
 -- the line passes its questions and is kept as it is written, borrowing the caller's bytes; or its first no turns it away
 abbrev pub ReadRule : Bor (List ℕ) → Result RuleLine Refusal → Type 0
-ReadRule line (Ok r) = (r.line ≡ line) × Passes forms.Rule line.now × Writes forms.Rule line.now (rule_of r)
+ReadRule line (Ok r) = RulePartOf line r × Passes forms.Rule line.now × Writes forms.Rule line.now (rule_of r)
 ReadRule line (Err e) = Turned forms.Rule line.now e.question e.place
 
 abbrev pub ReadFact : Bor (List ℕ) → Result FactLine Refusal → Type 0
-ReadFact line (Ok f) = (f.line ≡ line) × Passes forms.Fact line.now × Writes forms.Fact line.now (fact_of f)
+ReadFact line (Ok f) = AtomPartOf line f.atom × Passes forms.Fact line.now × Writes forms.Fact line.now (fact_of f)
 ReadFact line (Err e) = Turned forms.Fact line.now e.question e.place

@@ -1,5 +1,6 @@
 -- The values of a fact line, and how they answer whether its words are numbers.
-use Rattle.std.specs.Prelude.{◌≡◌, ℕ, List, take, Ok, Err, Result}
+use Rattle.std.specs.Prelude.{◌≡◌, ℕ, List, Ok, Err, Result}
+use Rattle.bounded.specs.Bounded.{Bounded}
 use Rattle.questions.specs.declared.question.Refusal.{Refusal}
 use Rattle.questions.specs.declared.question.Question.TheVariants.{Numbers}
 use Rattle.lists.specs.Places.{First, Pairwise}
@@ -10,22 +11,18 @@ use Rattle.patterns.specs.Asking.{GoodNumber, Number, Yes, No}
 use Rattle.patterns.specs.Asking.Asked.{numbers}
 use Rattle.patterns.specs.Tables.{written}
 use Rattle.reading.specs.declared.line.FactLine.{FactLine}
-use Rattle.reading.specs.declared.values.Values.{Values}
 use Rattle.reading.specs.Lines.{fact_of}
-
-abbrev pub values_of : Values → List ℕ
-values_of v = take v.count v.table
 
 -- the words in the brackets of a fact line
 abbrev pub words_of : FactLine → List Token
-words_of f = (written f.line.now f.atom).words
+words_of f = (written f.atom).words
 
 -- each word is a number and these are the values; or this is the first word that is none
-abbrev pub Valued : FactLine → Result Values Refusal → Type 0
-Valued f (Ok v) = Pairwise (λ w n. Number w.text n) (words_of f) (values_of v)
+abbrev pub Valued : FactLine → Result (Bounded ℕ) Refusal → Type 0
+Valued f (Ok v) = Pairwise (λ w n. Number w.text n) (words_of f) v.items
 Valued f (Err e) = (k : ℕ) × (w : Token) × First (λ x. GoodNumber x.text → ⊥) (words_of f) k w × (e.place ≡ w.place) × (e.question ≡ Numbers)
 
--- of a line that writes the fact: the question on its numbers is answered so
-abbrev pub Asks : FactLine → Result Values Refusal → Type 0
-Asks f (Ok v) = Writes forms.Fact f.line.now (fact_of f) → Yes forms.Fact f.line.now numbers
-Asks f (Err e) = Writes forms.Fact f.line.now (fact_of f) → No forms.Fact f.line.now numbers e.place × (e.question ≡ Numbers)
+-- of every line that writes the fact: the question on its numbers is answered so
+abbrev pub Asks : FactLine → Result (Bounded ℕ) Refusal → Type 0
+Asks f (Ok v) = (line : List ℕ) → Writes forms.Fact line (fact_of f) → Yes forms.Fact line numbers
+Asks f (Err e) = (line : List ℕ) → Writes forms.Fact line (fact_of f) → No forms.Fact line numbers e.place × (e.question ≡ Numbers)

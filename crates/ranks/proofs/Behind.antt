@@ -25,7 +25,7 @@ module _ (table : List (Option Edge)) (best : List ℕ) where
 
   -- an entry with an edge is the step from its row to its column
   entry_at : (k : ℕ) (edge : Edge) → k < 16384 → get_or table k None ≡ Some edge → (s : Step) × TableStep table s × (s.from ≡ k / 128) × (s.to ≡ k % 128)
-  entry_at k edge l e = entry_step table (k / 128) (k % 128) edge (omega arith) (omega arith) (subst (λ i. get_or table i None ≡ Some edge) (omega arith) e)
+  entry_at k edge l e = let (s, step, f, g, _) = entry_step table (k / 128) (k % 128) edge (omega arith) (omega arith) (subst (λ i. get_or table i None ≡ Some edge) (omega arith) e) in (s, step, f, g)
 
   module _ (attained : Attained (TableStep table) (number best)) (covers : Covers (TableStep table) 127 (number best)) where
     tense_infinite : (i : ℕ) → Tense table best i → walks.Infinite (TableStep table) i

@@ -18,9 +18,9 @@ module _ (table : List (Option Edge)) where
       go (inr (k, e)) = (Special, e, ap {B = ℕ} (λ x. cond (eqb x 5) 1 0) k)
 
   -- an edge is a step
-  pub entry_step : (p q : ℕ) (edge : Edge) → p < 128 → q < 128 → entry table p q ≡ Some edge → (s : Step) × TableStep table s × (s.from ≡ p) × (s.to ≡ q)
-  entry_step p q Normal l m e = (record { kind = 4; rule = 0; from = p; to = q }, record { from = l; to = m; edge = inl (refl, e); rule = refl }, refl, refl)
-  entry_step p q Special l m e = (record { kind = 5; rule = 0; from = p; to = q }, record { from = l; to = m; edge = inr (refl, e); rule = refl }, refl, refl)
+  pub entry_step : (p q : ℕ) (edge : Edge) → p < 128 → q < 128 → entry table p q ≡ Some edge → (s : Step) × TableStep table s × (s.from ≡ p) × (s.to ≡ q) × (counts s ≡ adds edge)
+  entry_step p q Normal l m e = (record { kind = 4; rule = 0; from = p; to = q }, record { from = l; to = m; edge = inl (refl, e); rule = refl }, refl, refl, refl)
+  entry_step p q Special l m e = (record { kind = 5; rule = 0; from = p; to = q }, record { from = l; to = m; edge = inr (refl, e); rule = refl }, refl, refl, refl)
 
 pub counts_few : (s : Step) → counts s ≤ 1
 counts_few s = cond_both (eqb s.kind 5) 1 0 (λ n. n ≤ 1) (λ _. omega arith) (λ _. omega arith)

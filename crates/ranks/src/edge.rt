@@ -11,7 +11,7 @@ pub enum Edge {
 
 impl Edge {
     /// What the edge adds to the special edges on a walk.
-    pub fn adds(self) -> u16
+    pub fn adds(self) -> u32
         ensures { result ≡ adds self }
     {
         match self {

@@ -4,7 +4,6 @@ ghost use Rattle.ranks.specs.Relaxing.{Tense};
 ghost use Rattle.ranks.specs.Tables.{source};
 
 use crate::best::{Numbers, relax};
-use crate::edge::Edge;
 use crate::table::{ENTRIES, POSITIONS, Table};
 use fixpoint::{Round, System, found_by};
 

@@ -29,31 +29,31 @@ use Rattle.patterns.proofs.Feeding.{later}
 use Rattle.patterns.proofs.Keeping.{keeps_few}
 
 -- the reader stands for what lies before the place at
-abbrev pub Along : Form → List ℕ → Reader → ℕ → Type 0
-Along form s r at = (ts : List plain.Token) × (d : Draft) × Between s at 0 ts × (run (start form) ts ≡ Some d) × Shows s r d at
+abbrev pub Along : Form → Bor (List ℕ) → Reader → ℕ → Type 0
+Along form line r at = (ts : List plain.Token) × (d : Draft) × Between line.now at 0 ts × (run (start form) ts ≡ Some d) × Shows line r d at
 
-pub along_start : (form : Form) (s : List ℕ) (r : Reader) → Shows s r (start form) 0 → Along form s r 0
-along_start form s r h = ([], start form, none refl, refl, h)
+pub along_start : (form : Form) (line : Bor (List ℕ)) (r : Reader) → Shows line r (start form) 0 → Along form line r 0
+along_start form line r h = ([], start form, none refl, refl, h)
 
-blank_shows : (s : List ℕ) (r : Reader) (d : Draft) (i a : ℕ) → Shows s r d i → i ≤ a → Shows s r d a
-blank_shows s r d i a h l = record { state = h.state; held = later s r.tables r.extra (parts d) i a h.held l }
+blank_shows : (line : Bor (List ℕ)) (r : Reader) (d : Draft) (i a : ℕ) → Shows line r d i → i ≤ a → Shows line r d a
+blank_shows line r d i a h l = record { state = h.state; held = later line r.tables r.extra (parts d) i a h.held l }
 
 pub along_more : (form : Form) (line m : Bor (List ℕ)) (i j : ℕ) (o : Option Token) (t : Token) (old new : Reader) → m ≡ line → o ≡ Some t
-    → Along form line.now old i → Next line i j (Ok o) → Fed old t new (Ok tt) → Along form m.now new j
+    → Along form line old i → Next line i j (Ok o) → Fed old t new (Ok tt) → Along form m new j
 along_more form line m i j o t old new same some (ts, d, b, r, sh) next fed =
     let (a, blanks, is) = subst (λ x. Next line i j (Ok x)) some next in
     let s = line.now in
     let u = token_at s a j (kind_of t) in
     let (f, q, sh2) = fed line d i a j sh blanks.from is in
-    subst (λ x. Along form x.now new j) (sym same) (ts ++ (u ∷ []), f, between_snoc s a j (kind_of t) ts (between_blanks s i a ts b blanks) is.lies, run_snoc (start form) d f ts u r q, sh2)
+    subst (λ x. Along form x new j) (sym same) (ts ++ (u ∷ []), f, between_snoc s a j (kind_of t) ts (between_blanks s i a ts b blanks) is.lies, run_snoc (start form) d f ts u r q, sh2)
 
-pub along_stray : (form : Form) (line m : Bor (List ℕ)) (i j : ℕ) (e : Refusal) (r : Reader) (us : List plain.Token) → line ≡ m → Tokens m.now us → Along form line.now r i → Next line i j (Err e) → ⊥
+pub along_stray : (form : Form) (line m : Bor (List ℕ)) (i j : ℕ) (e : Refusal) (r : Reader) (us : List plain.Token) → line ≡ m → Tokens m.now us → Along form line r i → Next line i j (Err e) → ⊥
 along_stray form line m i j e r us same all (ts, d, b, _, _) (_, _, blanks, nothing) =
     stray_or_tokens line.now e.place us (stray_here line.now e.place ts (between_blanks line.now i e.place ts b blanks) nothing) (subst (λ x. Tokens x.now us) (sym same) all)
 
 -- the token cannot stand there
 pub along_stuck : (form : Form) (line m : Bor (List ℕ)) (i j : ℕ) (o : Option Token) (t : Token) (old new : Reader) (e : Refusal) (us : List plain.Token) → line ≡ m → o ≡ Some t
-    → Tokens m.now us → Along form line.now old i → Next line i j (Ok o) → Fed old t new (Err e) → No form m.now pattern e.place × (Pattern ≡ e.question)
+    → Tokens m.now us → Along form line old i → Next line i j (Ok o) → Fed old t new (Err e) → No form m.now pattern e.place × (Pattern ≡ e.question)
 along_stuck form line m i j o t old new e us same some all (ts, d, b, r, sh) next fed =
     let (a, blanks, is) = subst (λ x. Next line i j (Ok x)) some next in
     let s = line.now in
@@ -112,25 +112,25 @@ of_line (rule_line a b h) w x = x
 of_line (fact_line a) w (zero, side, k, v, h, i, o) = (0, side, k, v, h, i, o)
 of_line (fact_line a) w (suc n, side, k, v, h, i, o) = absurd h
 
-whole : (form : Form) (s : List ℕ) (ts : List plain.Token) (d : Draft) (r : Reader) → run (start form) ts ≡ Some d → Shows s r d (length s) → r.state ≡ state.Done
-    → (l : Line) × Follow form ts l × Held s r.tables r.extra (line_parts l) (length s)
-whole form s ts d r h sh q =
+whole : (form : Form) (line : Bor (List ℕ)) (ts : List plain.Token) (d : Draft) (r : Reader) → run (start form) ts ≡ Some d → Shows line r d (length line.now) → r.state ≡ state.Done
+    → (l : Line) × Follow form ts l × Held line r.tables r.extra (line_parts l) (length line.now)
+whole form line ts d r h sh q =
     let (l, e) = finished d (sym sh.state ∙ q) in
-    (l, run_follows form ts l (h ∙ ap (λ (x : Draft). Some x) e), subst (λ x. Held s r.tables r.extra (parts x) (length s)) e sh.held)
+    (l, run_follows form ts l (h ∙ ap (λ (x : Draft). Some x) e), subst (λ x. Held line r.tables r.extra (parts x) (length line.now)) e sh.held)
 
 pub along_end : (form : Form) (line m : Bor (List ℕ)) (i j : ℕ) (o : Option Token) (r : Reader) (n : ℕ) (x : Result Tables Refusal) → line ≡ m → ((t : Token) → o ≡ Some t → ⊥)
-    → n ≡ length m.now → Along form line.now r i → Next line i j (Ok o) → Finished r n x → Patterned form m.now x
+    → n ≡ length m.now → Along form line r i → Next line i j (Ok o) → Finished r n x → Patterned form m x
 along_end form line m i j (Some t) r n x same some len a next f = absurd (some t refl)
 along_end form line m i j None r n (Ok t) same some len (ts, d, b, h, sh) (blanks, _) (q, e, k) =
     let s = line.now in
-    let at_end = blank_shows s r d i (length s) sh blanks.from in
-    let (l, f, held) = whole form s ts d r h at_end q in
-    let keeps : Keeps s t (line_parts l) = subst (λ y. Keeps s y (line_parts l)) (sym k) (subst (λ y. Held s r.tables y (line_parts l) (length s)) e held) in
+    let at_end = blank_shows line r d i (length s) sh blanks.from in
+    let (l, f, held) = whole form line ts d r h at_end q in
+    let keeps : Keeps line t (line_parts l) = subst (λ y. Keeps line y (line_parts l)) (sym k) (subst (λ y. Held line r.tables y (line_parts l) (length s)) e held) in
     let writes : Writes form s l = (ts, between_blanks s i (length s) ts b blanks, f) in
-    subst (λ y. Spells form y.now t) same (l, writes, keeps, (l, writes, λ w too. keeps_few s t (line_parts l) w keeps (of_line l w too)))
+    subst (λ y. Spells form y t) same (l, writes, keeps, (l, writes, λ w too. keeps_few line t (line_parts l) w keeps (of_line l w too)))
 along_end form line m i j None r n (Err e) same some len (ts, d, b, h, sh) (blanks, _) (inl (q, why, at)) =
     let s = line.now in
-    subst (λ y. Patterned form y.now (Err e)) same (inl (
+    subst (λ y. Patterned form y (Err e)) same (inl (
       (
         ts,
         between_blanks s i (length s) ts b blanks,
@@ -144,9 +144,9 @@ along_end form line m i j None r n (Err e) same some len (ts, d, b, h, sh) (blan
     ))
 along_end form line m i j None r n (Err e) same some len (ts, d, b, h, sh) (blanks, _) (inr (q, extra, why)) =
     let s = line.now in
-    let at_end = blank_shows s r d i (length s) sh blanks.from in
-    let (l, f, held) = whole form s ts d r h at_end q in
-    let first : FirstExtra (line_parts l) (length s) e.place = subst (λ y. Held s r.tables y (line_parts l) (length s)) extra held in
+    let at_end = blank_shows line r d i (length s) sh blanks.from in
+    let (l, f, held) = whole form line ts d r h at_end q in
+    let first : FirstExtra (line_parts l) (length s) e.place = subst (λ y. Held line r.tables y (line_parts l) (length s)) extra held in
     let writes : Writes form s l = (ts, between_blanks s i (length s) ts b blanks, f) in
     let least : (v : plain.Token) → TooMany l v → first.word.place ≤ v.place = λ v too. (let a = first.least v (of_line l v too) in let p = first.place in omega arith) in
-    subst (λ y. Patterned form y.now (Err e)) same (inr ((l, writes), (l, first.word, writes, to_line l first.word first.extra, least, first.place), sym why))
+    subst (λ y. Patterned form y (Err e)) same (inr ((l, writes), (l, first.word, writes, to_line l first.word first.extra, least, first.place), sym why))

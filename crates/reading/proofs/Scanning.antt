@@ -18,7 +18,7 @@ use Rattle.reading.specs.Lines.{Long}
 
 -- a token of the lexer is long exactly if the token of the line is
 long_there : (line : Bor (List ℕ)) (a e : ℕ) (t : Token) → Is line a e t → Long t → LongWord (token_at line.now a e (kind_of t))
-long_there line a e (Word text p) is l = (refl, subst (λ (x : List ℕ). 8 < length x) is.borrows.holds l)
+long_there line a e (Word w) is l = (refl, subst (λ (x : List ℕ). 8 < length x) is.borrows.holds l)
 long_there line a e (Bars p) is l = absurd l
 long_there line a e (Arrow p) is l = absurd l
 long_there line a e (Open p) is l = absurd l
@@ -30,7 +30,7 @@ no_kind : (k : Kind) → (k ≡ Kind.word → ◌≡◌ {A = ℕ} 0 1) → k ≡
 no_kind k f e = let z = f e in omega arith
 
 long_back : (line : Bor (List ℕ)) (a e : ℕ) (t : Token) → Is line a e t → LongWord (token_at line.now a e (kind_of t)) → Long t
-long_back line a e (Word text p) is (_, l) = subst (λ (x : List ℕ). 8 < length x) (sym is.borrows.holds) l
+long_back line a e (Word w) is (_, l) = subst (λ (x : List ℕ). 8 < length x) (sym is.borrows.holds) l
 long_back line a e (Bars p) is (k, _) = no_kind Kind.bars (λ q. cc) k
 long_back line a e (Arrow p) is (k, _) = no_kind Kind.arrow (λ q. cc) k
 long_back line a e (Open p) is (k, _) = no_kind Kind.opens (λ q. cc) k

@@ -18,10 +18,7 @@ pub fn check_length(line: &[u8]) -> Result<(), Refusal>
     ensures { (form : Form) → Answers form line.now line_length result }
 {
     if line.len() > LONGEST_LINE {
-        return Err(Refusal {
-            question: Question::LineLength,
-            place: 0,
-        });
+        return Err(Question::LineLength.at(0));
     }
     Ok(())
 }
@@ -30,10 +27,7 @@ pub fn check_bytes(line: &[u8]) -> Result<(), Refusal>
     ensures { (form : Form) → Answers form line.now bytes result }
 {
     match first_stray(line) {
-        Some(place) => Err(Refusal {
-            question: Question::Bytes,
-            place,
-        }),
+        Some(place) => Err(Question::Bytes.at(place)),
         None => Ok(()),
     }
 }
@@ -42,14 +36,8 @@ fn check_word(token: Token) -> Result<(), Refusal>
     ensures { Judged token.entry result }
 {
     match token {
-        Token::Word { text, place } => {
-            if text.len() > LONGEST_WORD {
-                return Err(Refusal {
-                    question: Question::WordLength,
-                    place,
-                });
-            }
-            Ok(())
+        Token::Word(word) if word.text.len() > LONGEST_WORD => {
+            Err(Question::WordLength.at(word.place))
         }
         _ => Ok(()),
     }

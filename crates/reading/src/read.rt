@@ -14,9 +14,9 @@ use questions::question::Refusal;
 use tokens::lexer::Lexer;
 
 // The pattern, and then the counts.
-fn read_pattern(line: &[u8], form: Form) -> Result<Tables, Refusal>
+fn read_pattern<'a>(line: &'a [u8], form: Form) -> Result<Tables<'a>, Refusal>
     requires { (ts : List PlainToken) × Tokens line.now ts }
-    ensures { Patterned form line.now result }
+    ensures { Patterned form line.entry result }
 {
     let mut lexer = Lexer::new(line);
     let mut reader = Reader::new(form);
@@ -27,8 +27,8 @@ fn read_pattern(line: &[u8], form: Form) -> Result<Tables, Refusal>
 }
 
 // Each question is put to the whole line before the next one.
-fn read(line: &[u8], form: Form) -> Result<Tables, Refusal>
-    ensures { Read form line.now result }
+fn read<'a>(line: &'a [u8], form: Form) -> Result<Tables<'a>, Refusal>
+    ensures { Read form line.entry result }
 {
     check_length(line)?;
     check_bytes(line)?;
@@ -36,28 +36,24 @@ fn read(line: &[u8], form: Form) -> Result<Tables, Refusal>
     read_pattern(line, form)
 }
 
-// A rule line, `label||| body -> head.`, with its words by their places.
+// A rule line, `label||| body -> head.`, with its words.
 pub fn read_rule<'a>(line: &'a [u8]) -> Result<RuleLine<'a>, Refusal>
     ensures read { ReadRule line.entry result }
     ensures determined { LineDetermined forms.Rule line.now }
     ensures machine { MachineExact forms.Rule }
 {
-    let tables = read(line, Form::Rule)?;
-    Ok(RuleLine {
-        line,
-        label: tables.label,
-        body: tables.body,
-        head: tables.head,
-    })
+    let Tables { label, body, head } = read(line, Form::Rule)?;
+    Ok(RuleLine { label, body, head })
 }
 
-// A fact line, one atom and a full stop, with its words by their places. Whether these are numbers is asked later.
+// A fact line, one atom and a full stop, with its words. Whether these are numbers is asked later.
 pub fn read_fact<'a>(line: &'a [u8]) -> Result<FactLine<'a>, Refusal>
     ensures read { ReadFact line.entry result }
     ensures determined { LineDetermined forms.Fact line.now }
     ensures machine { MachineExact forms.Fact }
 {
     let tables = read(line, Form::Fact)?;
-    let atom = tables.body.atoms()[0];
-    Ok(FactLine { line, atom })
+    // The pattern has one atom.
+    let atom = tables.body.into_last().unwrap();
+    Ok(FactLine { atom })
 }

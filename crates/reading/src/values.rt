@@ -1,12 +1,6 @@
 // The values of a fact, at most four.
-ghost use Rattle.std.specs.Prelude.{◌≡◌, ◌≤◌, length};
-
-#[derive(Clone, Copy, Debug)]
-pub struct Values {
-    table: [u16; 4],
-    count: usize,
-    ghost few: { count ≤ 4 },
-    ghost wide: { length table ≡ 4 },
-}
+use bounded::Bounded;
 
 mod numbers;
+
+pub type Values = Bounded<u16, 4>;

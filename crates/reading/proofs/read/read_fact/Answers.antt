@@ -1,6 +1,8 @@
-use Rattle.std.proofs.Common.{refl}
 use Rattle.std.proofs.lemmas.Result.{err_from_is_err_and}
+use Rattle.std.proofs.Common.{Option, subst}
+use Rattle.patterns.specs.declared.atom.Atom.{Atom}
 use Rattle.patterns.specs.declared.state.Form.TheVariants as forms
+use Rattle.patterns.specs.Tables.{Last}
 use Rattle.patterns.proofs.Machines.{machine_exact}
 use Rattle.patterns.proofs.Parting.{line_determined}
 use Rattle.reading.proofs.Ordering.{fact_written}
@@ -14,4 +16,6 @@ returns-in_err-tables c =
 pub returns : goal.returns
 returns c =
     let (passes, spells) = c.in_ok-tables.ensures in
-    record { read = (refl, passes, fact_written _ _ _ _ c.atoms.ensures.atoms spells); determined = line_determined forms.Fact _; machine = machine_exact forms.Fact }
+    let last = subst (λ (o : Option Atom). Last c.in_ok-tables.tables.body o) c.unwrap-atom.ensures c.into_last.ensures in
+    let (part, writes) = fact_written _ _ _ last spells in
+    record { read = (part, passes, writes); determined = line_determined forms.Fact _; machine = machine_exact forms.Fact }

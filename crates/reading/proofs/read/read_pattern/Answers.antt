@@ -6,7 +6,7 @@ use Rattle.reading.proofs.read.read_pattern.Goals as goal
 pub loop-token-init : goal.loop-token-init
 loop-token-init c =
     let line = c.new-lexer.result.line in
-    (refl, λ form shows. subst (λ (n : ℕ). Along form line.now c.new-reader.result n) (sym c.new-lexer.ensures.at) (along_start _ _ _ (shows line.now)))
+    (refl, λ form shows. subst (λ (n : ℕ). Along form line c.new-reader.result n) (sym c.new-lexer.ensures.at) (along_start _ _ _ (shows line)))
 
 pub returns-in_err-token : goal.returns-in_err-token
 returns-in_err-token c =

@@ -10,7 +10,7 @@ use tokens::token::Word;
 mod feeding;
 
 // The words of a line in their tables.
-#[derive(Clone, Copy)]
+#[derive(Clone, Copy, Debug)]
 pub struct Tables<'a> {
     // of a fact line: of no meaning
     pub label: Word<'a>,
@@ -18,7 +18,7 @@ pub struct Tables<'a> {
     pub head: Side<'a>,
 }
 
-#[derive(Clone, Copy)]
+#[derive(Clone, Copy, Debug)]
 pub struct Reader<'a> {
     state: State,
     tables: Tables<'a>,

@@ -4,7 +4,8 @@ ghost use Rattle.graphs.specs.Potentials.{Attained, Covers};
 ghost use Rattle.ranks.specs.Tables.{TableStep};
 ghost use Rattle.ranks.specs.Relaxing.{Relaxes, Round, number};
 
-use crate::table::{NORMAL, POSITIONS, Table, is_edge};
+use crate::table::{POSITIONS, Table};
+use std::array;
 
 // A simple walk has fewer steps than there are positions.
 const ROUNDS: usize = POSITIONS - 1;
@@ -16,14 +17,10 @@ pub(crate) fn relax(table: &Table, best: &Numbers, to: usize) -> u32
     requires { to < 128 }
     ensures { Relaxes table.now best.now 128 to result }
 {
-    let mut most = 0;
-    'froms: for from in 0..POSITIONS {
-        let entry = table[POSITIONS * from + to];
-        if is_edge(entry) {
-            let next = best[from] as u32 + (entry - NORMAL) as u32;
-            if most < next {
-                most = next;
-            }
+    let mut most: u32 = 0;
+    for from in 0..POSITIONS {
+        if let Some(edge) = table[POSITIONS * from + to] {
+            most = most.max(u32::from(best[from]) + u32::from(edge.adds()));
         }
     }
     most
@@ -34,11 +31,7 @@ fn round(table: &Table, best: &Numbers) -> Numbers
     requires { (p : ℕ) → number best.now p < 65535 }
     ensures { Round table.now best.now result }
 {
-    let mut next = [0; POSITIONS];
-    'tos: for to in 0..POSITIONS {
-        next[to] = relax(table, best, to) as u16;
-    }
-    next
+    array::from_fn(|to| relax(table, best, to) as u16)
 }
 
 // The special edges on some walk to each position: no fewer than on any walk to it of 127 steps or less.

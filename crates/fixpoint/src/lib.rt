@@ -100,7 +100,8 @@ fn grow<Y: System>(system: &Y, rounds: &mut Rounds, before: Round) -> bool
     let mut grew = false;
     for s in 0..system.steps() {
         let to = system.target(s);
-        if to < n && rounds[to] == 0 && system.ready(s, rounds, before) {
+        let fresh = to < n && rounds[to] == 0;
+        if fresh && system.ready(s, rounds, before) {
             rounds[to] = before + 1;
             grew = true;
         }

@@ -21,7 +21,7 @@ leads p xs d at n h q =
       from = omega arith;
       within = omega arith;
       passes = λ k a l.
-        let back : at + (k - at) ≡ k = omega arith in
-        ap (λ (i : ℕ). p (get_or xs i d)) (sym back) ∙ ap p (sym (get_or-drop at xs (k - at) d)) ∙ prefix_len_passes p ys (k - at) d (omega arith);
+          let back : at + (k - at) ≡ k = omega arith in
+          ap (λ (i : ℕ). p (get_or xs i d)) (sym back) ∙ ap p (sym (get_or-drop at xs (k - at) d)) ∙ prefix_len_passes p ys (k - at) d (omega arith);
       stops = λ l. ap (λ (i : ℕ). p (get_or xs (at + i) d)) e ∙ ap p (sym (get_or-drop at xs (prefix_len p ys) d)) ∙ prefix_len_stops p ys d (omega arith);
     }

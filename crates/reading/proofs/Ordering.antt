@@ -44,10 +44,6 @@ only_atom : (before : List Atom) (d : Atom) (xs : List Atom) (a : Written) → x
 only_atom [] d xs a e q = let h = sym (ap (map written) e) ∙ q in cc
 only_atom (b ∷ before) d xs a e q = absurd (let n = ap length (sym (ap (map written) e) ∙ q) in let m = length-map (before ++ (d ∷ [])) written in let k = length-append before (d ∷ []) in omega arith)
 
-pub fact_some : (line : Bor (List ℕ)) (t : Tables) → Spells forms.Fact line t → t.body.atoms.items ≡ [] → ⊥
-fact_some line t (rule_line a b h, (ts, _, f), k, _) e = absurd f
-fact_some line t (fact_line a, w, k, _) e = let n = ap length (sym (ap (map written) e) ∙ k.first) in absurd (omega arith)
-
 pub fact_written : (line : Bor (List ℕ)) (t : Tables) (d : Atom) → Last t.body (Some d) → Spells forms.Fact line t → AtomPartOf line d × Writes forms.Fact line.now (fact_line (written d))
 fact_written line t d last (rule_line a b h, (ts, _, f), k, _) = absurd f
 fact_written line t d (before, e) (fact_line a, w, k, _) =

@@ -8,10 +8,10 @@ use Rattle.patterns.specs.Patterns.{Written, Line, Writes, Breaks, TooMany}
 use Rattle.patterns.specs.declared.state.Form.{Form}
 use Rattle.patterns.specs.Patterns.Line.{fact_line}
 use Rattle.patterns.specs.declared.state.Form.TheVariants as forms
-use Rattle.patterns.specs.Asking.{Asked, LongWord, GoodNumber, Yes, No, FirstNo, AllYes, asked, LineDetermined}
+use Rattle.patterns.specs.Asking.{Asked, LongWord, GoodNumber, question_of, Yes, No, asked, LineDetermined}
 use Rattle.patterns.specs.Asking.Asked.{line_length, bytes, word_length, pattern, counts, numbers}
 use Rattle.patterns.proofs.Shapes.{writes_single, breaks_or_follows, breaks_single}
-use Rattle.questions.specs.declared.question.Question.{Question}
+use Rattle.questions.proofs.Parting.{first_no_single, all_or_first}
 
 fact_single : (s : List ℕ) (a b : Written) → Writes forms.Fact s (fact_line a) → Writes forms.Fact s (fact_line b) → a ≡ b
 fact_single s a b p q = let e = writes_single forms.Fact s (fact_line a) (fact_line b) p q in cc
@@ -42,21 +42,9 @@ no_single form s numbers p q (a, k, w, x, f, e) (b, j, v, y, g, h) =
     let same = fact_single s a b x y in
     e ∙ ap (λ (z : Token). z.place) (first_single (λ z. GoodNumber z.text → ⊥) b.words k j w v (subst (λ z. First (λ z. GoodNumber z.text → ⊥) z.words k w) same f) g) ∙ sym h
 
-pub first_no_single : (form : Form) (s : List ℕ) (xs : List Asked) (q r : Question) (p t : ℕ) → FirstNo form s xs q p → FirstNo form s xs r t → (q ≡ r) × (p ≡ t)
-first_no_single form s [] q r p t a b = absurd a
-first_no_single form s (x ∷ xs) q r p t (inl (m, e)) (inl (n, f)) = (sym e ∙ f, no_single form s x p t m n)
-first_no_single form s (x ∷ xs) q r p t (inl (m, e)) (inr (y, b)) = absurd (yes_or_no form s x p y m)
-first_no_single form s (x ∷ xs) q r p t (inr (y, a)) (inl (n, f)) = absurd (yes_or_no form s x t y n)
-first_no_single form s (x ∷ xs) q r p t (inr (_, a)) (inr (_, b)) = first_no_single form s xs q r p t a b
-
-pub all_or_first : (form : Form) (s : List ℕ) (xs : List Asked) (q : Question) (p : ℕ) → AllYes form s xs → FirstNo form s xs q p → ⊥
-all_or_first form s [] q p a b = b
-all_or_first form s (x ∷ xs) q p (y, a) (inl (n, _)) = yes_or_no form s x p y n
-all_or_first form s (x ∷ xs) q p (_, a) (inr (_, b)) = all_or_first form s xs q p a b
-
 pub line_determined : (form : Form) (s : List ℕ) → LineDetermined form s
 line_determined form s = record {
   written = writes_single form s;
-  turned = λ q r p t a b. first_no_single form s asked q r p t a b;
-  apart = λ q p a b. all_or_first form s asked q p a b;
+  turned = first_no_single (Yes form s) (No form s) question_of (yes_or_no form s) (no_single form s) asked;
+  apart = all_or_first (Yes form s) (No form s) question_of (yes_or_no form s) asked;
 }

@@ -1,6 +1,7 @@
 -- The questions that are put to a line: when each answers yes, and when no and at which place.
 use Rattle.std.specs.Prelude.{◌≡◌, ℕ, ◌+◌, ◌-◌, ◌*◌, ◌<◌, ◌≤◌, ◌⊎◌, List, [], ◌∷◌, length}
 use Rattle.lists.specs.Places.{At, First}
+use Rattle.questions.specs.Asking as asking
 use Rattle.tokens.specs.Tokens.{Token, Tokens, Stray}
 use Rattle.tokens.specs.Tokens.Kind.{word}
 use Rattle.patterns.specs.Patterns.{Written, Line, Is, Writes, Breaks, TooMany}
@@ -71,26 +72,16 @@ No form s pattern p = (ts : List Token) × Tokens s ts × Breaks form s ts p
 No form s counts p = (l : Line) × (w : Token) × Writes form s l × TooMany l w × ((v : Token) → TooMany l v → w.place ≤ v.place) × (p ≡ w.place)
 No form s numbers p = (a : Written) × (k : ℕ) × (w : Token) × Writes forms.Fact s (fact_line a) × First (λ v. GoodNumber v.text → ⊥) a.words k w × (p ≡ w.place)
 
--- of these questions, q is the first that answers no, at the place p
-abbrev pub FirstNo : Form → List ℕ → List Asked → Question → ℕ → Type 0
-FirstNo form s [] q p = ⊥
-FirstNo form s (x ∷ xs) q p = (No form s x p × (question_of x ≡ q)) ⊎ (Yes form s x × FirstNo form s xs q p)
-
--- all of these questions answer yes
-abbrev pub AllYes : Form → List ℕ → List Asked → Type 0
-AllYes form s [] = Unit {0}
-AllYes form s (x ∷ xs) = Yes form s x × AllYes form s xs
-
 -- the questions that every line is put, in this order
 abbrev pub asked : List Asked
 asked = line_length ∷ bytes ∷ word_length ∷ pattern ∷ counts ∷ []
 
 -- the line is turned away; or it passes
 abbrev pub Turned : Form → List ℕ → Question → ℕ → Type 0
-Turned form s q p = FirstNo form s asked q p
+Turned form s q p = asking.FirstNo (Yes form s) (No form s) question_of asked q p
 
 abbrev pub Passes : Form → List ℕ → Type 0
-Passes form s = AllYes form s asked
+Passes form s = asking.AllYes (Yes form s) asked
 
 -- a line writes one thing at most; at most one question turns it away, at one place, and none if it passes
 pub record LineDetermined (form : Form) (s : List ℕ) : Type 0 where

@@ -2,5 +2,4 @@
 #![tactic(auto)]
 
 pub mod atom;
-pub mod reader;
 pub mod state;

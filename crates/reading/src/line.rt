@@ -1,18 +1,17 @@
-// Lines that passed the five questions that every line is put. A word is told by its place; its text is a part of the line.
-use patterns::atom::{Atom, Side, Span};
+// Lines that passed the five questions that every line is put. Their words borrow the line.
+use patterns::atom::{Atom, Side};
+use tokens::token::Word;
 
 // A rule line: `label||| body -> head.`
 #[derive(Clone, Copy)]
 pub struct RuleLine<'a> {
-    pub line: &'a [u8],
-    pub label: Span,
-    pub body: Side,
-    pub head: Side,
+    pub label: Word<'a>,
+    pub body: Side<'a>,
+    pub head: Side<'a>,
 }
 
 // A fact line: one atom and a full stop.
 #[derive(Clone, Copy)]
 pub struct FactLine<'a> {
-    pub line: &'a [u8],
-    pub atom: Atom,
+    pub atom: Atom<'a>,
 }

@@ -1,104 +1,78 @@
-// Reading and filling the tables.
-ghost use Rattle.std.specs.Prelude.{◌≡◌, ℕ, ◌≤◌, [], length};
-ghost use Rattle.patterns.specs.Tables.{spans, atoms_of, Text, SoundSide, Pushed, Begun, Added};
+// Reading and filling atoms and sides.
+ghost use Rattle.std.specs.Prelude.{◌≡◌, ◌≤◌, [], length};
+ghost use Rattle.patterns.specs.Tables.{Pushed, Begun, Added};
 
-use super::{Atom, MOST, Side, Span};
+use super::{Atom, Side};
+use bounded::{Bounded, Full};
+use tokens::token::Word;
 
-impl Span {
-    // The word's bytes: the line's own memory, cut off at the line's end.
-    pub fn text<'a>(self, line: &'a [u8]) -> &'a [u8]
-        ensures { Text line.entry result self }
-    {
-        let from = self.place.min(line.len());
-        let to = from + self.len.min(line.len() - from);
-        &line[from..to]
-    }
-}
-
-impl Atom {
-    fn new(predicate: Span) -> Atom
-        ensures predicate { result.predicate ≡ predicate }
-        ensures empty { result.count ≡ 0 }
-        ensures wide { length result.words ≡ 4 }
+impl<'a> Atom<'a> {
+    fn new(predicate: Word<'a>) -> Atom<'a>
+        ensures predicate { result.predicate ≡ predicate.entry }
+        ensures empty { result.words.items ≡ [] }
     {
         Atom {
             predicate,
-            words: [predicate; MOST],
-            count: 0,
+            words: Bounded::new(predicate),
         }
     }
 
-    pub fn predicate(&self) -> Span
+    pub fn predicate(&self) -> Word<'a>
         ensures { result ≡ self.now.predicate }
     {
         self.predicate
     }
 
     // The words in its brackets.
-    pub fn words(&self) -> &[Span]
-        ensures words { result.now ≡ spans self.now }
+    pub fn words(&self) -> &[Word<'a>]
+        ensures words { result.now ≡ self.now.words.items }
         ensures few { length result.now ≤ 4 }
     {
-        let n = self.count.min(MOST);
-        &self.words[0..n]
+        self.words.as_slice()
     }
 
     // One word more, unless there are four.
-    fn push(&mut self, word: Span) -> bool
-        ensures { Pushed self.old word self.new result }
+    fn push(&mut self, word: Word<'a>) -> Result<(), Full>
+        ensures { Pushed self.old word.entry self.new result }
     {
-        let n = self.count;
-        if n >= MOST {
-            return false;
-        }
-        self.words[n] = word;
-        self.count = n + 1;
-        true
+        self.words.push(word)
     }
 }
 
-impl Side {
-    // No atom yet; the word only fills the table.
-    pub fn new(filler: Span) -> Side
-        ensures empty { atoms_of result ≡ [] }
-        ensures sound { SoundSide result }
+impl<'a> Side<'a> {
+    // No atom yet; the word only fills the unused places.
+    pub fn new(filler: Word<'a>) -> Side<'a>
+        ensures { result.atoms.items ≡ [] }
     {
-        let atoms = [Atom::new(filler); MOST];
-        Side { atoms, count: 0 }
+        Side {
+            atoms: Bounded::new(Atom::new(filler)),
+        }
     }
 
-    pub fn atoms(&self) -> &[Atom]
-        ensures atoms { result.now ≡ atoms_of self.now }
+    pub fn atoms(&self) -> &[Atom<'a>]
+        ensures atoms { result.now ≡ self.now.atoms.items }
         ensures few { length result.now ≤ 4 }
     {
-        let n = self.count.min(MOST);
-        &self.atoms[0..n]
+        self.atoms.as_slice()
     }
 
     // One atom more, unless there are four.
-    pub fn begin(&mut self, predicate: Span) -> bool
-        ensures { Begun self.old predicate self.new result }
+    pub fn begin(&mut self, predicate: Word<'a>) -> Result<(), Full>
+        ensures { Begun self.old predicate.entry self.new result }
     {
-        let n = self.count;
-        if n >= MOST {
-            return false;
-        }
-        self.atoms[n] = Atom::new(predicate);
-        self.count = n + 1;
-        true
+        self.atoms.push(Atom::new(predicate))
     }
 
     // One word more in the last atom, unless it has four.
-    pub fn add(&mut self, word: Span) -> bool
-        ensures { Added self.old word self.new result }
+    pub fn add(&mut self, word: Word<'a>) -> Result<(), Full>
+        ensures { Added self.old word.entry self.new result }
     {
-        if self.count == 0 || self.count > MOST {
-            return true;
-        }
-        let last = self.count - 1;
-        let mut atom = self.atoms[last];
-        let kept = atom.push(word);
-        self.atoms[last] = atom;
-        kept
+        let Some(mut last) = self.atoms.pop() else {
+            return Ok(());
+        };
+        let added = last.push(word);
+        // It goes back to where it was.
+        self.atoms.push(last)?;
+        added
     }
 }

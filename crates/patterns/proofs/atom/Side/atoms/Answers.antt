@@ -1,6 +1,0 @@
-use Rattle.std.proofs.Common.{◌≡◌, length, arith, rules}
-use Rattle.lists.proofs.Fronts.{clipped}
-use Rattle.patterns.proofs.atom.Side.atoms.Goals as goal
-
-pub returns : goal.returns
-returns c = let h : length c.args.self.now.atoms ≡ 4 = search rules in record { atoms = clipped c.args.self.now.atoms c.args.self.now.count 4 _ h (omega arith); few = search rules }

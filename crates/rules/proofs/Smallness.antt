@@ -1,5 +1,5 @@
 -- The sides of rules in memory are small.
-use Rattle.std.proofs.Common.{◌≡◌, ℕ, ◌<◌, ◌≤◌, List, map, length, ◌∙◌, subst, arith, length-take}
+use Rattle.std.proofs.Common.{ℕ, ◌<◌, ◌≤◌, List, map, length, subst}
 use Rattle.std.proofs.Math.ListN.{length-map}
 use Rattle.lists.specs.Places.{At}
 use Rattle.lists.proofs.Mapped.{at_map}
@@ -8,21 +8,15 @@ use Rattle.theory.specs.Rules as plain
 use Rattle.rules.specs.declared.rule.Atom.{Atom}
 use Rattle.rules.specs.declared.rule.Side.{Side}
 use Rattle.rules.specs.declared.rule.Rule.{Rule}
-use Rattle.rules.specs.Views.{variables, atoms_of, plain_atom, plain_side, plain_rule}
-
-length_variables : (a : Atom) → length (variables a) ≡ a.count
-length_variables a = length-take a.count a.columns ∙ omega (arith, a.few, a.wide)
-
-length_side : (d : Side) → length (plain_side d) ≡ d.count
-length_side d = length-map (atoms_of d) plain_atom ∙ length-take d.count d.atoms ∙ omega (arith, d.few, d.wide)
+use Rattle.rules.specs.Views.{atoms_of, plain_atom, plain_side, plain_rule}
 
 pub side_small : (d : Side) → SmallSide (plain_side d)
 side_small d = record {
-  some = omega (arith, length_side d, d.some);
-  few = omega (arith, length_side d, d.few);
+  some = rw length-map d.some;
+  few = rw length-map d.few;
   predicate = λ k a here. each (λ b. b.predicate < 32) (λ x. x.known) k a here;
-  column = λ k a here. each (λ b. 0 < length b.columns) (λ x. omega (arith, length_variables x, x.some)) k a here;
-  columns = λ k a here. each (λ b. length b.columns ≤ 4) (λ x. omega (arith, length_variables x, x.few)) k a here;
+  column = λ k a here. each (λ b. 0 < length b.columns) (λ x. x.some) k a here;
+  columns = λ k a here. each (λ b. length b.columns ≤ 4) (λ x. x.few) k a here;
 }
   where
     each : (P : plain.Atom → Type 0) → ((x : Atom) → P (plain_atom x)) → (k : ℕ) (a : plain.Atom) → At (plain_side d) k a → P a

@@ -1,6 +1,6 @@
 -- What a name that is kept spells.
-use Rattle.std.specs.Prelude.{ℕ, List, take}
+use Rattle.std.specs.Prelude.{ℕ, List}
 use Rattle.rules.specs.declared.name.Name.{Name}
 
 abbrev pub text_of : Name → List ℕ
-text_of n = take n.len n.bytes
+text_of n = n.bytes.items

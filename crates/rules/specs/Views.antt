@@ -1,15 +1,15 @@
 -- The rules that stand in memory, as the definitions have them.
-use Rattle.std.specs.Prelude.{◌≡◌, ℕ, ◌<◌, ◌≤◌, List, map, length, take, Some, None, Option}
+use Rattle.std.specs.Prelude.{◌≡◌, ℕ, ◌<◌, ◌≤◌, List, map, length, Some, None, Option}
 use Rattle.theory.specs.Rules as plain
 use Rattle.rules.specs.declared.rule.Atom.{Atom}
 use Rattle.rules.specs.declared.rule.Side.{Side}
 use Rattle.rules.specs.declared.rule.Rule.{Rule}
 
 abbrev pub variables : Atom → List ℕ
-variables a = take a.count a.columns
+variables a = a.columns.items
 
 abbrev pub atoms_of : Side → List Atom
-atoms_of d = take d.count d.atoms
+atoms_of d = d.atoms.items
 
 abbrev pub plain_atom : Atom → plain.Atom
 plain_atom a = record { predicate = a.predicate; columns = variables a }

@@ -1,33 +1,30 @@
 // Atoms, sides and rules by number. What every rule that exists has is in these types.
-ghost use Rattle.std.specs.Prelude.{◌≡◌, ◌<◌, ◌≤◌, length};
+ghost use Rattle.std.specs.Prelude.{◌<◌, ◌≤◌, length};
 
 use crate::name::Name;
+use bounded::Bounded;
 
 mod methods;
 
 // The most atoms of a side, and the most variables of an atom.
 const MOST: usize = 4;
 
-// A predicate's number and, of the table, the first `count` variables' numbers.
+// A predicate's number, and the numbers of the variables in its columns.
 #[derive(Clone, Copy)]
 pub struct Atom {
     predicate: u8,
-    columns: [u8; MOST],
-    count: usize,
+    columns: Bounded<u8, MOST>,
     ghost known: { predicate < 32 },
-    ghost some: { 0 < count },
-    ghost few: { count ≤ 4 },
-    ghost wide: { length columns ≡ 4 },
+    ghost some: { 0 < length columns.items },
+    ghost few: { length columns.items ≤ 4 },
 }
 
-// The body or the head of a rule: of the table, the first `count` atoms.
+// The body or the head of a rule.
 #[derive(Clone, Copy)]
 pub struct Side {
-    atoms: [Atom; MOST],
-    count: usize,
-    ghost some: { 0 < count },
-    ghost few: { count ≤ 4 },
-    ghost wide: { length atoms ≡ 4 },
+    atoms: Bounded<Atom, MOST>,
+    ghost some: { 0 < length atoms.items },
+    ghost few: { length atoms.items ≤ 4 },
 }
 
 // Whenever the body holds, so does the head, for some values of the variables that only the head has.

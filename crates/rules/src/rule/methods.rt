@@ -2,7 +2,8 @@
 ghost use Rattle.std.specs.Prelude.{◌≡◌};
 ghost use Rattle.rules.specs.Views.{variables, atoms_of, AtomMade, SideMade};
 
-use super::{Atom, MOST, Side};
+use super::{Atom, Side};
+use bounded::Bounded;
 
 // The most predicates of a book.
 const PREDICATES: u8 = 32;
@@ -12,19 +13,11 @@ impl Atom {
     pub fn new(predicate: u8, variables: &[u8]) -> Option<Atom>
         ensures { AtomMade predicate variables.now result }
     {
-        let count = variables.len();
-        if predicate >= PREDICATES || count == 0 || count > MOST {
+        if predicate >= PREDICATES || variables.is_empty() {
             return None;
         }
-        let mut columns = [0u8; MOST];
-        'copy: for i in 0..count {
-            columns[i] = variables[i];
-        }
-        Some(Atom {
-            predicate,
-            columns,
-            count,
-        })
+        let columns = Bounded::from_slice(0, variables).ok()?;
+        Some(Atom { predicate, columns })
     }
 
     pub fn predicate(&self) -> u8
@@ -37,7 +30,7 @@ impl Atom {
     pub fn variables(&self) -> &[u8]
         ensures { result.now ≡ variables self.now }
     {
-        &self.columns[0..self.count]
+        self.columns.as_slice()
     }
 }
 
@@ -46,23 +39,14 @@ impl Side {
     pub fn new(atoms: &[Atom]) -> Option<Side>
         ensures { SideMade atoms.now result }
     {
-        let count = atoms.len();
-        if count == 0 || count > MOST {
-            return None;
-        }
-        let mut table = [atoms[0]; MOST];
-        'copy: for i in 0..count {
-            table[i] = atoms[i];
-        }
-        Some(Side {
-            atoms: table,
-            count,
-        })
+        let first = atoms.first()?;
+        let atoms = Bounded::from_slice(*first, atoms).ok()?;
+        Some(Side { atoms })
     }
 
     pub fn atoms(&self) -> &[Atom]
         ensures { result.now ≡ atoms_of self.now }
     {
-        &self.atoms[0..self.count]
+        self.atoms.as_slice()
     }
 }

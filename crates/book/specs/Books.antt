@@ -2,7 +2,7 @@
 use Rattle.std.specs.Prelude.{◌≡◌, ℕ, List, [], ◌∷◌, ◌++◌, Ok, Err, vec_items, Result}
 use Rattle.questions.specs.declared.question.Question.TheVariants.{LabelUnused}
 use Rattle.questions.specs.declared.question.Refusal.{Refusal}
-use Rattle.patterns.specs.Tables.{word_at}
+use Rattle.patterns.specs.Tables.{word_of}
 use Rattle.reading.specs.declared.line.RuleLine.{RuleLine}
 use Rattle.rules.specs.declared.rule.Rule.{Rule}
 use Rattle.naming.specs.Names.{predicates_of}
@@ -18,8 +18,8 @@ plain_book b = book_of (vec_items b.rules) b.known
 
 -- no standing rule carries the line's label; or one does
 abbrev pub LabelAsked : plain.Book → RuleLine → Result (Unit {0}) Refusal → Type 0
-LabelAsked b rule (Ok u) = (i : ℕ) (e : plain.Entry) → plain.Carries b (word_at rule.line.now rule.label).text i e → ⊥
-LabelAsked b rule (Err x) = (i : ℕ) × (e : plain.Entry) × plain.Carries b (word_at rule.line.now rule.label).text i e × (x.question ≡ LabelUnused) × (x.place ≡ rule.label.place)
+LabelAsked b rule (Ok u) = (i : ℕ) (e : plain.Entry) → plain.Carries b (word_of rule.label).text i e → ⊥
+LabelAsked b rule (Err x) = (i : ℕ) × (e : plain.Entry) × plain.Carries b (word_of rule.label).text i e × (x.question ≡ LabelUnused) × (x.place ≡ rule.label.place)
 
 -- with these the line is added; or its first no turns it away
 abbrev pub Prepared : plain.Book → List ℕ → Result (Rule × Predicates) Refusal → Type 0

@@ -13,15 +13,6 @@ use questions::question::{Question, Refusal};
 use rules::rule::Rule;
 use std::alloc::{AllocError, Global};
 
-// Removes the rule of this number; later ones move down.
-fn take_out(rules: &mut Vec<Rule>, number: usize)
-    requires { number < vec_len rules.old }
-    ensures items { rules.new.items ≡ take number rules.old.items ++ drop (number + 1) rules.old.items }
-    ensures capacity { vec_capacity rules.new ≡ vec_capacity rules.old }
-{
-    rules.remove(number);
-}
-
 impl Book {
     // No rule stands and no predicate is known.
     pub fn new(heap: Global) -> Result<Book, AllocError>
@@ -59,14 +50,7 @@ impl Book {
     pub fn find(&self, label: &[u8]) -> Option<usize>
         ensures { FindsLabel (plain_book self.now) label.now result }
     {
-        let rules = self.rules();
-        'search: for i in 0..rules.len() {
-            let rule = rules[i];
-            if rule.label.is(label) {
-                return Some(i);
-            }
-        }
-        None
+        self.rules().iter().position(|rule| rule.label.is(label))
     }
 
     // The label's rule no longer stands and later ones move down; what is known stays known. Refused if no standing rule carries the label.
@@ -74,15 +58,8 @@ impl Book {
         ensures withdrawn { Withdrawn (plain_book self.old) label.now (plain_book self.new) result }
         ensures determined { Determined (plain_book self.old) }
     {
-        match self.find(label) {
-            Some(number) => {
-                take_out(&mut self.rules, number);
-                Ok(())
-            }
-            None => Err(Refusal {
-                question: Question::LabelStands,
-                place: 0,
-            }),
-        }
+        let number = self.find(label).ok_or(Question::LabelStands.at(0))?;
+        self.rules.remove(number);
+        Ok(())
     }
 }

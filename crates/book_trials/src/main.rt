@@ -3,28 +3,20 @@
 
 use book::book::Book;
 use dependencies::affected;
-use lines::Lines;
+use lines::{Lines, NumberedLine};
 use positions::rank;
-use questions::question::Refusal;
 use ranks::rank::Rank;
 use std::io::Read;
 use std::{fs, io};
 
-const LIMIT: usize = 65_536;
-
-fn refused(rt: &HostRuntime, number: usize, refusal: Refusal) -> io::Result<()> {
-    let question = refusal.question.number();
-    let place = refusal.place;
-    println!(rt; "line {number} refused {question} at {place}")
-}
+const LIMIT: u64 = 65_536;
 
 // The lines that are turned away, and at the end how many rules stand and how many predicates are known.
 fn report(rt: &HostRuntime, text: &[u8]) -> io::Result<()> {
     let mut book = Book::new(rt.alloc())?;
-    let mut lines = Lines::new(text);
-    while let Some(line) = lines.next_line() {
+    for line in Lines::new(text) {
         if let Err(refusal) = book.add(line.text) {
-            refused(rt, line.number, refusal)?;
+            println!(rt; "line {} {refusal}", line.number)?;
         }
     }
     let rules = book.rules().len();
@@ -49,7 +41,7 @@ fn positions_of(rt: &HostRuntime, book: &Book) -> io::Result<()> {
     let mut unknown: usize = 0;
     for position in 0..130 {
         match rank(book, position) {
-            Ok(rank) => told(rt, position, rank, position < 128 && table[position])?,
+            Ok(rank) => told(rt, position, rank, table.get(position) == Some(&true))?,
             Err(_) => unknown += 1,
         }
     }
@@ -57,35 +49,30 @@ fn positions_of(rt: &HostRuntime, book: &Book) -> io::Result<()> {
 }
 
 // A minus withdraws the label behind it; any other byte adds the line behind it; a line with no byte asks for the positions.
-fn call(rt: &HostRuntime, book: &mut Book, number: usize, text: &[u8]) -> io::Result<()> {
-    if text.is_empty() {
-        return positions_of(rt, book);
-    }
-    let rest = &text[1..];
-    let outcome = if text[0] == b'-' {
-        book.withdraw(rest)
-    } else {
-        book.add(rest)
+fn call(rt: &HostRuntime, book: &mut Book, line: NumberedLine) -> io::Result<()> {
+    let outcome = match line.text {
+        [] => return positions_of(rt, book),
+        [b'-', label @ ..] => book.withdraw(label),
+        [_, rule @ ..] => book.add(rule),
     };
     match outcome {
-        Ok(_) => println!(rt; "line {number} taken"),
-        Err(refusal) => refused(rt, number, refusal),
+        Ok(()) => println!(rt; "line {} taken", line.number),
+        Err(refusal) => println!(rt; "line {} {refusal}", line.number),
     }
 }
 
 fn book_calls(rt: &HostRuntime, text: &[u8]) -> io::Result<()> {
     println!(rt; "book")?;
     let mut book = Book::new(rt.alloc())?;
-    let mut lines = Lines::new(text);
-    while let Some(line) = lines.next_line() {
-        call(rt, &mut book, line.number, line.text)?;
+    for line in Lines::new(text) {
+        call(rt, &mut book, line)?;
     }
     Ok(())
 }
 
 fn main(rt: HostRuntime) -> io::Result<()> {
     let mut text = Vec::new(rt.alloc());
-    rt.stdin().take(LIMIT as u64).read_to_end(&mut text)?;
+    rt.stdin().take(LIMIT).read_to_end(&mut text)?;
     report(&rt, &text)?;
     let full = fs::read(&rt, "full.rules")?;
     report(&rt, &full)?;

@@ -12,8 +12,11 @@ mod way;
 pub use order::in_order;
 pub use way::way_back;
 
-/// The number of a round: 1 for the first items, 0 for what is not found.
+/// The number of a round: 1 for the first items.
 pub type Round = u64;
+
+/// The round of each item. What is not found has 0 and no `None`: the table's format is given, numbers with 0 outside.
+pub type Rounds = [Round; 1024];
 
 /// Items, of which some are first, and numbered steps, each from one or more items to one.
 pub trait System {
@@ -50,7 +53,7 @@ pub trait System {
         ensures { s < count self.now → result ≡ leads self.now s };
 
     // Whether all that a step waits for is found by the round `before`.
-    fn ready(&self, s: usize, rounds: &[Round; 1024], before: Round) -> bool
+    fn ready(&self, s: usize, rounds: &Rounds, before: Round) -> bool
         ensures { s < count self.now → Decides result (Ready rounds.now before (needs self.now s)) };
 
     // The one item that a step waits for; none if it waits for none or several.
@@ -59,23 +62,22 @@ pub trait System {
 }
 
 /// The round of an item; 0 if it has no place in the table.
-fn round_of(rounds: &[Round; 1024], item: usize) -> Round
+fn round_of(rounds: &Rounds, item: usize) -> Round
     ensures { result ≡ slice_index rounds.now item }
 {
-    if item < 1024 { rounds[item] } else { 0 }
+    rounds.get(item).copied().unwrap_or(0)
 }
 
 /// Whether an item has a round from 1 to `before`, so that a step from it alone is ready.
-pub fn found_by(rounds: &[Round; 1024], item: usize, before: Round) -> bool
+pub fn found_by(rounds: &Rounds, item: usize, before: Round) -> bool
     ensures found { Decides result (FoundBy rounds.now before item) }
     ensures ready { Decides result (Ready rounds.now before (item ∷ [])) }
 {
-    let round = round_of(rounds, item);
-    if 0 < round { round <= before } else { false }
+    (1..=before).contains(&round_of(rounds, item))
 }
 
 /// The round in which each item is found: a step is looked at once a round, until a round finds nothing.
-pub fn search<Y: System>(system: &Y) -> [Round; 1024]
+pub fn search<Y: System>(system: &Y) -> Rounds
     ensures found { Found (Y.size system.now) (Y.first system.now) (Step (Y.count system.now) (Y.needs system.now) (Y.leads system.now)) result }
     ensures determined { Determined (Y.size system.now) (Y.first system.now) (Step (Y.count system.now) (Y.needs system.now) (Y.leads system.now)) }
     ensures grounded { (items : List ℕ) → Ordered result items → Grounded (Y.first system.now) (Step (Y.count system.now) (Y.needs system.now) (Y.leads system.now)) items }

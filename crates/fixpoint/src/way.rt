@@ -1,28 +1,36 @@
 // The way back from a found item to a first one.
-ghost use Rattle.std.specs.Prelude.{◌≡◌, ℕ, ◌≤◌, [], ◌∷◌, length, take, IfSome, MatchOption, ◌≢◌, slice_index};
+ghost use Rattle.std.specs.Prelude.{◌≡◌, ℕ, ◌<◌, ◌≤◌, [], ◌∷◌, length, take, IfSome, MatchOption, ◌≢◌, slice_index};
 ghost use Rattle.fixpoint.specs.Least.{Found};
 ghost use Rattle.fixpoint.specs.Steps.{Step};
 ghost use Rattle.fixpoint.specs.Ways.{Way, Climbs, NoWay, Rest};
 
-use crate::{Round, System, round_of};
+use crate::{Round, Rounds, System, round_of};
 
-/// An item of the round `round` from which alone a step leads to `to`.
-fn step_back<Y: System>(
+/// The item of the round `round` from which alone step `s` leads to `to`; none if it leads elsewhere, or from other items.
+fn step_from<Y: System>(
     system: &Y,
-    rounds: &[Round; 1024],
+    rounds: &Rounds,
+    s: usize,
     to: usize,
     round: Round,
 ) -> Option<usize>
+    ensures { s < Y.count system.now → MatchOption result ((a : ℕ) → Y.needs system.now s ≡ (a ∷ []) → Y.leads system.now s ≡ to → slice_index rounds.now a ≢ round) (λ a. (Y.needs system.now s ≡ (a ∷ [])) × (Y.leads system.now s ≡ to) × (slice_index rounds.now a ≡ round)) }
+{
+    if system.target(s) != to {
+        return None;
+    }
+    system
+        .single(s)
+        .filter(|item| round_of(rounds, *item) == round)
+}
+
+/// An item of the round `round` from which alone a step leads to `to`.
+fn step_back<Y: System>(system: &Y, rounds: &Rounds, to: usize, round: Round) -> Option<usize>
     ensures { MatchOption result ((a : ℕ) → Step (Y.count system.now) (Y.needs system.now) (Y.leads system.now) (a ∷ []) to → slice_index rounds.now a ≢ round) (λ a. Step (Y.count system.now) (Y.needs system.now) (Y.leads system.now) (a ∷ []) to × (slice_index rounds.now a ≡ round)) }
 {
-    let m = system.steps();
-    'steps: for s in 0..m {
-        if system.target(s) == to {
-            if let Some(a) = system.single(s) {
-                if round_of(rounds, a) == round {
-                    return Some(a);
-                }
-            }
+    for s in 0..system.steps() {
+        if let Some(item) = step_from(system, rounds, s, to, round) {
+            return Some(item);
         }
     }
     None
@@ -32,7 +40,7 @@ fn step_back<Y: System>(
 // Each call is for another item, one round earlier, so calls nest at most 1,024 deep.
 pub fn way_back<Y: System>(
     system: &Y,
-    rounds: &[Round; 1024],
+    rounds: &Rounds,
     goal: usize,
     out: &mut [u16],
 ) -> Option<usize>
@@ -41,19 +49,12 @@ pub fn way_back<Y: System>(
     ensures rest { Rest out.old out.new result }
 {
     let round = round_of(rounds, goal);
-    if round == 0 {
-        return None;
-    }
-    if out.len() < round as usize {
+    if round == 0 || out.len() < round as usize {
         return None;
     }
     if 1 < round {
-        let Some(before) = step_back(system, rounds, goal, round - 1) else {
-            return None;
-        };
-        let Some(_) = way_back(system, rounds, before, out) else {
-            return None;
-        };
+        let before = step_back(system, rounds, goal, round - 1)?;
+        way_back(system, rounds, before, out)?;
     }
     out[round as usize - 1] = goal as u16;
     Some(round as usize)

@@ -20,11 +20,10 @@ pub record CutDetermined (s : List ℕ) : Type 0 where
   pub some : (ls : List (List ℕ)) × Cut s ls
   pub one : (xs ys : List (List ℕ)) → Cut s xs → Cut s ys → xs ≡ ys
 
--- the first newline from the place i on is at e, or there is none and e is the input's end
-pub record Ends (s : List ℕ) (i e : ℕ) : Type 0 where
-  pub from : i ≤ e
+-- the first newline is at e, or there is none and e is the input's end
+pub record Ends (s : List ℕ) (e : ℕ) : Type 0 where
   pub within : e ≤ length s
-  pub before : (k : ℕ) → i ≤ k → k < e → slice_index s k ≢ 10
+  pub before : (k : ℕ) → k < e → slice_index s k ≢ 10
   pub stops : e < length s → slice_index s e ≡ 10
 
 -- line is the text's own memory from the place at on; it, followed by the lines from next on, are the lines from at on

@@ -1,24 +1,21 @@
 // A text cut into numbered lines, handed out one by one.
 #![tactic(auto)]
 
-ghost use Rattle.std.specs.Prelude.{◌≡◌, ◌≤◌, length};
+ghost use Rattle.std.specs.Prelude.{◌≡◌, ◌-◌, ◌≤◌, length};
+ghost use Rattle.std.specs.Iterator.{at_most};
 ghost use Rattle.lines.specs.Cutting.{CutDetermined, Ends, Next};
 
 pub use crate::line::NumberedLine;
 
 mod line;
 
-// The place of the first newline from `from` on, or the text's end.
-fn line_end(text: &[u8], from: usize) -> usize
-    requires { from ≤ length text.now }
-    ensures { Ends text.now from result }
+// How many bytes stand before the first newline; all of them, if there is none.
+fn line_length(text: &[u8]) -> usize
+    ensures { Ends text.now result }
 {
-    for i in from..text.len() {
-        if text[i] == b'\n' {
-            return i;
-        }
-    }
-    text.len()
+    text.iter()
+        .position(|&byte| byte == b'\n')
+        .unwrap_or(text.len())
 }
 
 // A text, the place up to which it has been cut, and how many lines were handed out. A line takes a byte or more of the text, so their number does not overflow.
@@ -44,38 +41,35 @@ impl<'a> Lines<'a> {
         }
     }
 
-    // The next line, or none at the text's end.
-    pub fn next_line(&mut self) -> Option<NumberedLine<'a>>
-        ensures text { self.new.text ≡ self.old.text }
-        ensures handed { Next self.old.text self.old.at self.old.number self.new.at self.new.number result }
-        ensures determined { CutDetermined self.old.text.now }
-    {
-        let text = self.text;
-        let from = self.at;
-        let left = text.len() - from;
-        if left == 0 {
-            return None;
-        }
-        let end = line_end(text, from);
-        // Behind the newline, if there is one.
-        let next = text.len().min(end + 1);
-        let number = self.number + 1;
-        // Written whole, since what its type says holds only of all three together.
-        *self = Lines {
-            text,
-            at: next,
-            number,
-        };
-        Some(NumberedLine {
-            number,
-            text: &text[from..end],
-        })
-    }
-
     // How many lines were handed out.
-    pub fn count(&self) -> usize
+    pub fn handed_out(&self) -> usize
         ensures { result ≡ self.now.number }
     {
         self.number
+    }
+}
+
+// The next line, or none at the text's end.
+impl<'a> Iterator for Lines<'a> {
+    type Item = NumberedLine<'a>;
+
+    ghost next_gives = { λ s r t. (t.text ≡ s.text) × Next s.text s.at s.number t.at t.number r × CutDetermined s.text.now };
+
+    ghost remaining = { λ s. at_most (length s.text.now - s.at) };
+
+    fn next(&mut self) -> Option<NumberedLine<'a>> {
+        let rest = &self.text[self.at..];
+        if rest.is_empty() {
+            return None;
+        }
+        let length = line_length(rest);
+        // The newline is cut off too, if there is one.
+        let cut = rest.len().min(length + 1);
+        self.at += cut;
+        self.number += 1;
+        Some(NumberedLine {
+            number: self.number,
+            text: &rest[..length],
+        })
     }
 }

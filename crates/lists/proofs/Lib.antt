@@ -1,5 +1,6 @@
 pub mod Deciding
 pub mod Elements
+pub mod FromFn
 pub mod Fronts
 pub mod Joining
 pub mod Leading

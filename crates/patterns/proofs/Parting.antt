@@ -1,5 +1,5 @@
 -- A question on a line answers one thing, so a line has one outcome.
-use Rattle.std.proofs.Common.{◌≡◌, ℕ, ◌≤◌, List, [], ◌∷◌, sym, ap, ◌∙◌, subst, inl, inr, arith}
+use Rattle.std.proofs.Common.{◌≡◌, ℕ, ◌≤◌, List, sym, ap, ◌∙◌, subst, arith}
 use Rattle.lists.specs.Places.{At, First}
 use Rattle.lists.proofs.Numbered.{first_single}
 use Rattle.tokens.specs.Tokens.{Token}

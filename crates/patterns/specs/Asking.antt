@@ -1,5 +1,5 @@
 -- The questions that are put to a line: when each answers yes, and when no and at which place.
-use Rattle.std.specs.Prelude.{◌≡◌, ℕ, ◌+◌, ◌-◌, ◌*◌, ◌<◌, ◌≤◌, ◌⊎◌, List, [], ◌∷◌, length}
+use Rattle.std.specs.Prelude.{◌≡◌, ℕ, ◌+◌, ◌-◌, ◌*◌, ◌<◌, ◌≤◌, List, [], ◌∷◌, length}
 use Rattle.lists.specs.Places.{At, First}
 use Rattle.questions.specs.Asking as asking
 use Rattle.tokens.specs.Tokens.{Token, Tokens, Stray}

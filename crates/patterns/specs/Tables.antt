@@ -1,5 +1,5 @@
 -- What the atoms and sides of a line that is read spell.
-use Rattle.std.specs.Prelude.{◌≡◌, ℕ, ◌<◌, ◌≤◌, ◌⊎◌, List, [], ◌∷◌, ◌++◌, map, length, Ok, Err, Result}
+use Rattle.std.specs.Prelude.{◌≡◌, ℕ, ◌<◌, ◌≤◌, ◌⊎◌, List, [], ◌∷◌, ◌++◌, map, length, Some, None, Ok, Err, Option, Result}
 use Rattle.std.specs.Borrow.{Bor}
 use Rattle.bounded.specs.declared.Full.{Full}
 use Rattle.lists.specs.Parts.{Part}
@@ -37,6 +37,11 @@ SidePartOf line d = (k : ℕ) (a : Atom) → At d.atoms.items k a → AtomPartOf
 pub record FewIn (d : Side) : Type 0 where
   pub atoms : length d.atoms.items ≤ 4
   pub words : (k : ℕ) (a : Atom) → At d.atoms.items k a → length a.words.items ≤ 4
+
+-- the last atom; or there is none
+abbrev pub Last : Side → Option Atom → Type 0
+Last d None = d.atoms.items ≡ []
+Last d (Some a) = (before : List Atom) × (d.atoms.items ≡ before ++ (a ∷ []))
 
 -- one word more; or, if there were four, none
 abbrev pub Pushed : Atom → Word → Atom → Result (Unit {0}) Full → Type 0

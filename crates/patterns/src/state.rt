@@ -1,13 +1,13 @@
 // Where the reader of a pattern stands.
 
-#[derive(Clone, Copy)]
+#[derive(Clone, Copy, Debug, PartialEq, Eq)]
 pub enum Form {
     Rule,
     Fact,
 }
 
 // Which atoms are being read: those of a rule's body or head, or the one of a fact.
-#[derive(Clone, Copy)]
+#[derive(Clone, Copy, Debug, PartialEq, Eq)]
 pub enum Section {
     Body,
     Head,
@@ -15,7 +15,7 @@ pub enum Section {
 }
 
 // Named by what must come next.
-#[derive(Clone, Copy)]
+#[derive(Clone, Copy, Debug, PartialEq, Eq)]
 pub enum State {
     Label,
     Bars,

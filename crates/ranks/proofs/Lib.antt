@@ -3,4 +3,3 @@ pub mod Edges
 pub mod Relaxed
 pub mod Rounds
 pub mod Sources
-pub mod Stating

@@ -1,5 +1,5 @@
 -- The numbers of all positions, after rounds of unsettled.
-use Rattle.std.proofs.Common.{◌≡◌, ℕ, zero, suc, ◌+◌, ◌<◌, ◌≤◌, ◌⊎◌, List, [], length, get_or, set, replicate, sym, refl, ◌∙◌, subst, inl, inr, add-one, arith}
+use Rattle.std.proofs.Common.{◌≡◌, ℕ, zero, suc, ◌+◌, ◌<◌, ◌≤◌, ◌⊎◌, List, [], Option, length, get_or, set, replicate, sym, refl, ◌∙◌, subst, inl, inr, add-one, arith}
 use Rattle.std.proofs.Math.ListN.{length-replicate}
 use Rattle.std.proofs.lemmas.List.{length-set, get_or-set_same, get_or-set_other, get_or_past}
 use Rattle.std.proofs.lemmas.Bool.{cases_eq, cases_lt}
@@ -7,6 +7,7 @@ use Rattle.graphs.specs.declared.step.Step.{Step}
 use Rattle.graphs.specs.Walks.{Walk, counts, specials}
 use Rattle.graphs.specs.Potentials.{Attained, Covers, Lifts}
 use Rattle.graphs.proofs.Relaxing.{attained_more, covers_none, covers_more, lifted}
+use Rattle.ranks.specs.declared.edge.Edge.{Edge}
 use Rattle.ranks.specs.Tables.{TableStep}
 use Rattle.ranks.specs.Relaxing.{number, Gives, Relaxes, Round}
 use Rattle.ranks.proofs.Edges.{counts_few}
@@ -17,11 +18,11 @@ zeros (suc n) zero = refl
 zeros (suc n) (suc p) = zeros n p
 
 -- the round is done for the positions below `below`
-pub record Part (table old new : List ℕ) (below : ℕ) : Type 0 where
+pub record Part (table : List (Option Edge)) (old new : List ℕ) (below : ℕ) : Type 0 where
   pub long : length new ≡ 128
   pub done : (to : ℕ) → to < below → Relaxes table old 128 to (number new to)
 
-module _ (table old : List ℕ) where
+module _ (table : List (Option Edge)) (old : List ℕ) where
   pub part_none : Part table old (replicate 128 0) 0
   part_none = record { long = length-replicate {A = ℕ} 128 0; done = λ to l. absurd (omega arith) }
 
@@ -49,13 +50,13 @@ module _ (table old : List ℕ) where
       go (inr (s, step, e, f)) = omega (arith, low s.from, counts_few s)
 
 -- the numbers after k rounds
-pub record After (table : List ℕ) (k : ℕ) (best : List ℕ) : Type 0 where
+pub record After (table : List (Option Edge)) (k : ℕ) (best : List ℕ) : Type 0 where
   pub long : length best ≡ 128
   pub low : (p : ℕ) → number best p ≤ k
   pub attained : Attained (TableStep table) (number best)
   pub covers : Covers (TableStep table) k (number best)
 
-module _ (table : List ℕ) where
+module _ (table : List (Option Edge)) where
   pub after_none : After table 0 (replicate 128 0)
   after_none = record {
     long = length-replicate {A = ℕ} 128 0;

@@ -1,3 +1,4 @@
 pub mod Answers
+pub mod Edges
 pub mod Relaxing
 pub mod Tables

@@ -1,20 +1,24 @@
--- A table of edges between 128 positions: the byte at 128 × p + q is 1 for a normal edge from p to q, 2 for a special one, and anything else for none.
-use Rattle.std.specs.Prelude.{◌≡◌, ℕ, ◌+◌, ◌*◌, ◌/◌, ◌<◌, ◌≤◌, cond, ◌&&◌, ◌⊎◌, List, [], ◌∷◌, nat_le, slice_index}
+-- A table of edges between 128 positions: the entry at 128 × p + q is the edge from p to q, or none.
+use Rattle.std.specs.Prelude.{◌≡◌, ℕ, ◌+◌, ◌*◌, ◌/◌, ◌<◌, ◌⊎◌, List, [], ◌∷◌, Some, None, Option, slice_index_or}
 use Rattle.graphs.specs.declared.step.Step.{Step}
+use Rattle.ranks.specs.declared.edge.Edge.{Edge}
+use Rattle.ranks.specs.declared.edge.Edge.TheVariants.{Normal, Special}
 
-abbrev pub entry : List ℕ → ℕ → ℕ → ℕ
-entry table p q = slice_index table (128 * p + q)
-
-abbrev pub Edge : ℕ → Type 0
-Edge byte = (1 ≤ byte) × (byte ≤ 2)
+abbrev pub entry : List (Option Edge) → ℕ → ℕ → Option Edge
+entry table p q = slice_index_or table (128 * p + q) None
 
 -- the steps of a table: of kind 4 if normal, of kind 5 if special, of no rule
-pub record TableStep (table : List ℕ) (s : Step) : Type 0 where
+pub record TableStep (table : List (Option Edge)) (s : Step) : Type 0 where
   pub from : s.from < 128
   pub to : s.to < 128
-  pub edge : ((s.kind ≡ 4) × (entry table s.from s.to ≡ 1)) ⊎ ((s.kind ≡ 5) × (entry table s.from s.to ≡ 2))
+  pub edge : ((s.kind ≡ 4) × (entry table s.from s.to ≡ Some Normal)) ⊎ ((s.kind ≡ 5) × (entry table s.from s.to ≡ Some Special))
   pub rule : s.rule ≡ 0
 
--- where the edge of the byte at k begins; nowhere if the byte is none
-abbrev pub source : List ℕ → ℕ → List ℕ
-source table k = cond (nat_le 1 (slice_index table k) && nat_le (slice_index table k) 2) ((k / 128) ∷ []) []
+-- the position p if there is an edge
+abbrev pub position_if : ℕ → Option Edge → List ℕ
+position_if p None = []
+position_if p (Some edge) = p ∷ []
+
+-- where the edge of the entry at k begins; nowhere if the entry is none
+abbrev pub source : List (Option Edge) → ℕ → List ℕ
+source table k = position_if (k / 128) (slice_index_or table k None)

@@ -1,32 +1,35 @@
 // The most special edges on walks to a position, by rounds of relaxing: after k rounds those on walks of at most k steps.
-ghost use Rattle.std.specs.Prelude.{ℕ, ◌<◌};
+ghost use Rattle.std.specs.Prelude.{◌≡◌, ℕ, ◌<◌};
 ghost use Rattle.graphs.specs.Potentials.{Attained, Covers};
 ghost use Rattle.ranks.specs.Tables.{TableStep};
-ghost use Rattle.ranks.specs.Relaxing.{Relaxes, Round, number};
+ghost use Rattle.ranks.specs.Relaxing.{Relaxes, Round, number, offered};
 
-use crate::table::{NORMAL, POSITIONS, Table, is_edge};
+use crate::table::{POSITIONS, Table};
+use std::array;
 
 // A simple walk has fewer steps than there are positions.
 const ROUNDS: usize = POSITIONS - 1;
 
 pub(crate) type Numbers = [u16; POSITIONS];
 
+// The number that the edge from one position gives the other, if there is an edge.
+fn offer(table: &Table, best: &Numbers, from: usize, to: usize) -> Option<u32>
+    requires from { from < 128 }
+    requires to { to < 128 }
+    ensures { result ≡ offered table.now best.now to from }
+{
+    table[POSITIONS * from + to].map(|edge| u32::from(best[from]) + edge.adds())
+}
+
 // The greatest number that an edge to the position gives it; 0 if there is none.
 pub(crate) fn relax(table: &Table, best: &Numbers, to: usize) -> u32
     requires { to < 128 }
     ensures { Relaxes table.now best.now 128 to result }
 {
-    let mut most = 0;
-    'froms: for from in 0..POSITIONS {
-        let entry = table[POSITIONS * from + to];
-        if is_edge(entry) {
-            let next = best[from] as u32 + (entry - NORMAL) as u32;
-            if most < next {
-                most = next;
-            }
-        }
-    }
-    most
+    (0..POSITIONS)
+        .filter_map(|from| offer(table, best, from, to))
+        .max()
+        .unwrap_or(0)
 }
 
 // The number of each position after one more round.
@@ -34,11 +37,7 @@ fn round(table: &Table, best: &Numbers) -> Numbers
     requires { (p : ℕ) → number best.now p < 65535 }
     ensures { Round table.now best.now result }
 {
-    let mut next = [0; POSITIONS];
-    'tos: for to in 0..POSITIONS {
-        next[to] = relax(table, best, to) as u16;
-    }
-    next
+    array::from_fn(|to| relax(table, best, to) as u16)
 }
 
 // The special edges on some walk to each position: no fewer than on any walk to it of 127 steps or less.
@@ -47,7 +46,7 @@ pub(crate) fn best(table: &Table) -> Numbers
     ensures covers { Covers (TableStep table.now) 127 (number result) }
 {
     let mut best = [0; POSITIONS];
-    'rounds: for _ in 0..ROUNDS {
+    for _ in 0..ROUNDS {
         let next = round(table, &best);
         // then no further round would change anything
         if next == best {

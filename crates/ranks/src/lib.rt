@@ -1,22 +1,35 @@
 // The ranks of 128 positions, from a table of the edges between them.
 #![tactic(auto)]
 
-ghost use Rattle.std.specs.Prelude.{ℕ, ◌<◌, List, slice_index_or};
+ghost use Rattle.std.specs.Prelude.{◌≡◌, ℕ, ◌<◌, ◌==◌, if◌then◌else◌, List, slice_index_or};
 ghost use Rattle.graphs.specs.declared.step.Step.{Step};
 ghost use Rattle.graphs.specs.Laws.{Finite};
 ghost use Rattle.ranks.specs.Tables.{TableStep};
 ghost use Rattle.ranks.specs.Answers.{Ranked};
 ghost use Rattle.ranks.specs.declared.rank.Rank.TheVariants as rank;
 
-use fixpoint::search;
+use fixpoint::{Round, search};
 use rank::Rank;
+use std::array;
 use table::{POSITIONS, Table};
 use unsettled::Unsettled;
 
 mod best;
+pub mod edge;
 pub mod rank;
 pub mod table;
 mod unsettled;
+
+// What the search and the number say of a position: one that is found is infinite.
+fn told(round: Round, number: u16) -> Rank
+    ensures { result ≡ if round == 0 then rank.Number number else rank.Infinite }
+{
+    if round == 0 {
+        Rank::Number(number)
+    } else {
+        Rank::Infinite
+    }
+}
 
 /// The rank of each position, or that it is infinite; and each place of any finite list of edges is the one or the other.
 pub fn ranks(table: &Table) -> [Rank; POSITIONS]
@@ -25,11 +38,5 @@ pub fn ranks(table: &Table) -> [Rank; POSITIONS]
 {
     let best = best::best(table);
     let rounds = search(&Unsettled { table, best: &best });
-    let mut ranks = [Rank::Infinite; POSITIONS];
-    'positions: for p in 0..POSITIONS {
-        if rounds[p] == 0 {
-            ranks[p] = Rank::Number(best[p]);
-        }
-    }
-    ranks
+    array::from_fn(|p| told(rounds[p], best[p]))
 }

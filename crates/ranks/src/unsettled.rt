@@ -4,7 +4,7 @@ ghost use Rattle.ranks.specs.Relaxing.{Tense};
 ghost use Rattle.ranks.specs.Tables.{source};
 
 use crate::best::{Numbers, relax};
-use crate::table::{ENTRIES, POSITIONS, Table, is_edge};
+use crate::table::{ENTRIES, POSITIONS, Table};
 use fixpoint::{Round, System, found_by};
 
 // The items are the positions, and the steps the entries of the table.
@@ -30,11 +30,7 @@ impl System for Unsettled<'_> {
     }
 
     fn is_first(&self, i: usize) -> bool {
-        if i < POSITIONS {
-            (self.best[i] as u32) < relax(self.table, self.best, i)
-        } else {
-            false
-        }
+        i < POSITIONS && u32::from(self.best[i]) < relax(self.table, self.best, i)
     }
 
     fn steps(&self) -> usize {
@@ -46,26 +42,13 @@ impl System for Unsettled<'_> {
     }
 
     fn ready(&self, s: usize, rounds: &[Round; 1024], before: Round) -> bool {
-        if s < ENTRIES {
-            if is_edge(self.table[s]) {
-                found_by(rounds, s / POSITIONS, before)
-            } else {
-                false
-            }
-        } else {
-            false
-        }
+        self.single(s)
+            .is_some_and(|position| found_by(rounds, position, before))
     }
 
     fn single(&self, s: usize) -> Option<usize> {
-        if s < ENTRIES {
-            if is_edge(self.table[s]) {
-                Some(s / POSITIONS)
-            } else {
-                None
-            }
-        } else {
-            None
-        }
+        let table = self.table;
+        let edge = *table.get(s)?;
+        edge.map(|_| s / POSITIONS)
     }
 }

@@ -1,8 +1,8 @@
 -- What it is to read a line: it passes its questions and is kept as it is written, or its first no turns it away.
-use Rattle.std.specs.Prelude.{◌≡◌, ℕ, ◌<◌, List, length, Ok, Err, Result}
+use Rattle.std.specs.Prelude.{◌≡◌, ℕ, ◌<◌, ◌⊎◌, List, length, Ok, Err, Result}
 use Rattle.std.specs.Borrow.{Bor}
 use Rattle.questions.specs.declared.question.Refusal.{Refusal}
-use Rattle.questions.specs.declared.question.Question.TheVariants.{WordLength}
+use Rattle.questions.specs.declared.question.Question.TheVariants.{WordLength, Pattern, Counts}
 use Rattle.tokens.specs.Lexing.{place_of}
 use Rattle.tokens.specs.declared.token.Token.{Token}
 use Rattle.tokens.specs.declared.token.Token.TheVariants.{Word, Bars, Arrow, Open, Close, Comma, Stop}
@@ -11,9 +11,12 @@ use Rattle.patterns.specs.declared.state.Form.{Form}
 use Rattle.patterns.specs.Patterns.Line.{rule_line, fact_line}
 use Rattle.patterns.specs.declared.state.Form.TheVariants as forms
 use Rattle.patterns.specs.Asking.{Asked, question_of, Yes, No, Turned, Passes}
+use Rattle.patterns.specs.Asking.Asked.{pattern, counts}
+use Rattle.patterns.specs.declared.reader.Tables.{Tables}
 use Rattle.reading.specs.declared.line.RuleLine.{RuleLine}
 use Rattle.reading.specs.declared.line.FactLine.{FactLine}
 use Rattle.patterns.specs.Tables.{word_of, written, side_of, PartOf, AtomPartOf, SidePartOf}
+use Rattle.patterns.specs.Drafts.{Keeps, line_parts}
 
 -- one question is put: yes, or no at the refusal's place
 abbrev pub Answers : Form → List ℕ → Asked → Result (Unit {0}) Refusal → Type 0
@@ -33,6 +36,20 @@ Long (Stop p) = ⊥
 abbrev pub Judged : Token → Result (Unit {0}) Refusal → Type 0
 Judged t (Ok u) = Long t → ⊥
 Judged t (Err e) = Long t × (e.question ≡ WordLength) × (e.place ≡ place_of t)
+
+-- the tables hold what the line writes, and nothing in it is too many
+abbrev pub Spells : Form → Bor (List ℕ) → Tables → Type 0
+Spells form line t = (l : Line) × Writes form line.now l × Keeps line t (line_parts l) × Yes form line.now counts
+
+-- the last two questions: the pattern, and the counts
+abbrev pub Patterned : Form → Bor (List ℕ) → Result Tables Refusal → Type 0
+Patterned form line (Ok t) = Spells form line t
+Patterned form line (Err e) = (No form line.now pattern e.place × (Pattern ≡ e.question)) ⊎ (Yes form line.now pattern × No form line.now counts e.place × (Counts ≡ e.question))
+
+-- the whole line
+abbrev pub Read : Form → Bor (List ℕ) → Result Tables Refusal → Type 0
+Read form line (Ok t) = Passes form line.now × Spells form line t
+Read form line (Err e) = Turned form line.now e.question e.place
 
 -- what a rule line and a fact line that are read write
 abbrev pub rule_of : RuleLine → Line

@@ -3,7 +3,7 @@ use patterns::atom::{Atom, Side};
 use tokens::token::Word;
 
 // A rule line: `label||| body -> head.`
-#[derive(Clone, Copy)]
+#[derive(Clone, Copy, Debug)]
 pub struct RuleLine<'a> {
     pub label: Word<'a>,
     pub body: Side<'a>,
@@ -11,7 +11,7 @@ pub struct RuleLine<'a> {
 }
 
 // A fact line: one atom and a full stop.
-#[derive(Clone, Copy)]
+#[derive(Clone, Copy, Debug)]
 pub struct FactLine<'a> {
     pub atom: Atom<'a>,
 }

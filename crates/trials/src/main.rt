@@ -8,20 +8,13 @@ use reading::values::Values;
 use std::{fs, io};
 use tokens::words::word;
 
-fn refused(rt: &HostRuntime, number: usize, refusal: Refusal) -> io::Result<()> {
-    let question = refusal.question.number();
-    let place = refusal.place;
-    println!(rt; "line {number} refused {question} at {place}")
-}
-
 fn rule_lines(rt: &HostRuntime, text: &[u8]) -> io::Result<()> {
     println!(rt; "rule lines")?;
-    let mut lines = Lines::new(text);
-    while let Some(line) = lines.next_line() {
+    for line in Lines::new(text) {
         let number = line.number;
         match read_rule(line.text) {
             Ok(_) => println!(rt; "line {number} taken")?,
-            Err(refusal) => refused(rt, number, refusal)?,
+            Err(refusal) => println!(rt; "line {number} {refusal}")?,
         }
     }
     Ok(())
@@ -29,8 +22,7 @@ fn rule_lines(rt: &HostRuntime, text: &[u8]) -> io::Result<()> {
 
 // What a fact line comes to: its questions in order, and then whether its words are numbers.
 fn fact_values(line: &[u8]) -> Result<Values, Refusal> {
-    let fact = read_fact(line)?;
-    fact.values()
+    read_fact(line)?.values()
 }
 
 fn valued(rt: &HostRuntime, number: usize, values: &Values) -> io::Result<()> {
@@ -43,12 +35,11 @@ fn valued(rt: &HostRuntime, number: usize, values: &Values) -> io::Result<()> {
 
 fn fact_lines(rt: &HostRuntime, text: &[u8]) -> io::Result<()> {
     println!(rt; "fact lines")?;
-    let mut lines = Lines::new(text);
-    while let Some(line) = lines.next_line() {
+    for line in Lines::new(text) {
         let number = line.number;
         match fact_values(line.text) {
             Ok(values) => valued(rt, number, &values)?,
-            Err(refusal) => refused(rt, number, refusal)?,
+            Err(refusal) => println!(rt; "line {number} {refusal}")?,
         }
     }
     Ok(())
@@ -57,7 +48,7 @@ fn fact_lines(rt: &HostRuntime, text: &[u8]) -> io::Result<()> {
 // The length of the word at each place of the line, and at one past its end.
 fn words(rt: &HostRuntime, line: &[u8]) -> io::Result<()> {
     println!(rt; "words")?;
-    for place in 0..line.len() + 1 {
+    for place in 0..=line.len() {
         let length = word(line, place).len();
         println!(rt; "place {place} length {length}")?;
     }

@@ -11,17 +11,13 @@ const LIMIT: usize = 65_536;
 fn report(rt: &HostRuntime, text: &[u8]) -> io::Result<()> {
     let mut lines = Lines::new(text);
     let mut refused: usize = 0;
-    while let Some(line) = lines.next_line() {
+    for line in &mut lines {
         if let Err(refusal) = read_rule(line.text) {
-            let number = line.number;
-            let question = refusal.question.number();
-            let place = refusal.place;
-            println!(rt; "line {number} refused {question} at {place}")?;
-            refused = refused.saturating_add(1);
+            println!(rt; "line {} {refusal}", line.number)?;
+            refused += 1;
         }
     }
-    let count = lines.count();
-    println!(rt; "{count} lines read, {refused} refused")
+    println!(rt; "{} lines read, {refused} refused", lines.handed_out())
 }
 
 fn main(rt: HostRuntime) -> io::Result<()> {

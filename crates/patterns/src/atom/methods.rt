@@ -1,6 +1,6 @@
 // Reading and filling atoms and sides.
 ghost use Rattle.std.specs.Prelude.{◌≡◌, ◌≤◌, [], length};
-ghost use Rattle.patterns.specs.Tables.{Pushed, Begun, Added};
+ghost use Rattle.patterns.specs.Tables.{Last, Pushed, Begun, Added};
 
 use super::{Atom, Side};
 use bounded::{Bounded, Full};
@@ -54,6 +54,14 @@ impl<'a> Side<'a> {
         ensures few { length result.now ≤ 4 }
     {
         self.atoms.as_slice()
+    }
+
+    // The last atom, if there is one.
+    pub fn into_last(self) -> Option<Atom<'a>>
+        ensures { Last self.entry result }
+    {
+        let Side { mut atoms } = self;
+        atoms.pop()
     }
 
     // One atom more, unless there are four.

@@ -1,5 +1,5 @@
-use Rattle.std.proofs.Common.{◌-◌, length}
+use Rattle.std.proofs.Common.{◌≤◌}
 use Rattle.verdicts.proofs.report.Given as goal
 
-abbrev pub decreases-loop-line : goal.decreases-loop-line
-decreases-loop-line l = length l.lines.text.now - l.lines.at
+abbrev pub invariant-loop-line : goal.invariant-loop-line
+invariant-loop-line l = l.refused ≤ l.line-iterator.number

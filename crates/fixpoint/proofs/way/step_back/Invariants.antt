@@ -1,5 +1,5 @@
 use Rattle.std.proofs.Common.{◌≡◌, ℕ, ◌<◌, [], ◌∷◌, get_or}
 use Rattle.fixpoint.proofs.way.step_back.Given as goal
 
-abbrev pub invariant-steps : goal.invariant-steps
-invariant-steps g l = let y = g.Y.System in (k a : ℕ) → k < l.s → y.leads l.system k ≡ l.to → y.needs l.system k ≡ (a ∷ []) → get_or l.rounds a 0 ≡ l.round → ⊥
+abbrev pub invariant-loop-s : goal.invariant-loop-s
+invariant-loop-s g l = let y = g.Y.System in (k a : ℕ) → k < l.s → y.leads l.system k ≡ l.to → y.needs l.system k ≡ (a ∷ []) → get_or l.rounds a 0 ≡ l.round → ⊥

@@ -4,17 +4,17 @@ use Rattle.ranks.proofs.Rounds.{after_none, after_more, after_all, settled}
 use Rattle.ranks.proofs.best.best.Goals as goal
 use Rattle.std.proofs.lemmas.Bool.Decides.{Decides-eqb}
 
-pub rounds-init : goal.rounds-init
-rounds-init c = after_none c.args.table.now
+pub loop-init : goal.loop-init
+loop-init c = after_none c.args.table.now
 
 pub round-next-requires : goal.round-next-requires
-round-next-requires c = λ p. omega (arith, c.rounds.invariant.low p)
+round-next-requires c = λ p. omega (arith, c.loop.invariant.low p)
 
 pub returns-then-eq : goal.returns-then-eq
-returns-then-eq c = record { attained = c.rounds.invariant.attained; covers = settled c.args.table.now c.rounds.best c.round-next.result 127 c.round-next.ensures ((slice_eq-Decides Decides-eqb c.round-next.result c.rounds.best c.eq.result c.eq.ensures).0 c.if-eq.true) }
+returns-then-eq c = record { attained = c.loop.invariant.attained; covers = settled c.args.table.now c.loop.best c.round-next.result 127 c.round-next.ensures ((slice_eq-Decides Decides-eqb c.round-next.result c.loop.best c.eq.result c.eq.ensures).0 c.if-eq.true) }
 
-pub rounds-preserved : goal.rounds-preserved
-rounds-preserved c = after_more c.args.table.now c.rounds.counter c.rounds.best c.round-next.result c.rounds.invariant c.round-next.ensures
+pub loop-preserved : goal.loop-preserved
+loop-preserved c = after_more c.args.table.now c.loop.counter c.loop.best c.round-next.result c.loop.invariant c.round-next.ensures
 
 pub returns : goal.returns
-returns c = record { attained = c.rounds.invariant.attained; covers = after_all c.args.table.now c.rounds.counter c.rounds.best c.rounds.invariant c.rounds-test.false }
+returns c = record { attained = c.loop.invariant.attained; covers = after_all c.args.table.now c.loop.counter c.loop.best c.loop.invariant c.loop-test.false }

@@ -1,24 +1,15 @@
-use Rattle.std.proofs.Common.{ℕ, ◌+◌, sym, subst}
-use Rattle.std.proofs.lemmas.Bool.{both_ways}
-use Rattle.ranks.specs.Relaxing.{Relaxes}
-use Rattle.ranks.proofs.Relaxed.{relaxes_none, relaxes_more, relaxes_set, relaxes_all}
+use Rattle.std.proofs.Common.{◌∙◌, ap, refl, sym, subst, arith, rules}
+use Rattle.std.proofs.lemmas.Iterator.{YieldsList-from_range}
+use Rattle.std.proofs.lemmas.Iterator.Adapters.{option_map_id}
+use Rattle.std.proofs.lemmas.Iterator.Consumers.{YieldsList-from_filter_map, max_from_yields_List}
+use Rattle.std.specs.Option.{unwrap_or}
+use Rattle.ranks.specs.Relaxing.{Relaxes, offered}
+use Rattle.ranks.proofs.Relaxed.{relaxes_greatest}
 use Rattle.ranks.proofs.best.relax.Goals as goal
-use Rattle.ranks.proofs.best.relax.Goals.{then-is_edge+then-most-next, then-is_edge+else-most-next, else-is_edge}
-
-pub froms-init : goal.froms-init
-froms-init c = relaxes_none c.args.table.now c.args.best.now c.args.to
-
-pub froms-preserved : goal.froms-preserved
-froms-preserved c =
-    let same : ℕ → Type 0 = λ n. Relaxes c.args.table.now c.args.best.now (c.froms.from + 1) c.args.to n in
-    elim c.if-is_edge.branch [
-      | then-is_edge+then-most-next w ↦
-          subst same (sym w.most-is) (relaxes_set c.args.table.now c.args.best.now c.args.to c.froms.from c.froms.most c.froms.invariant c.froms-test.true c.requires (c.is_edge.ensures.0 w.if-is_edge.true) w.if-most-next.true)
-      | then-is_edge+else-most-next w ↦
-          subst same (sym w.most-is) (relaxes_more c.args.table.now c.args.best.now c.args.to c.froms.from c.froms.most c.froms.invariant (λ _. w.if-most-next.false))
-      | else-is_edge w ↦
-          subst same (sym w.most-is) (relaxes_more c.args.table.now c.args.best.now c.args.to c.froms.from c.froms.most c.froms.invariant (λ edge. absurd (both_ways c.is_edge.result w.if-is_edge.false (c.is_edge.ensures.1 edge))))
-    ]
 
 pub returns : goal.returns
-returns c = relaxes_all c.args.table.now c.args.best.now c.args.to c.froms.from c.froms.most c.froms.invariant c.froms-test.false
+returns c =
+    let table = c.args.table.now in
+    let best = c.args.best.now in
+    let most = sym (option_map_id c.max.result) ∙ max_from_yields_List _ c.max.result c.max.ensures.ran (YieldsList-from_filter_map _ (offered table best c.args.to) (YieldsList-from_range 0 128 128 (cc) refl) c.filter_map.ensures.closure (λ x r q k. search rules)) in
+    subst (λ r. Relaxes table best 128 c.args.to r) (ap (λ o. unwrap_or o 0) (sym most) ∙ sym c.unwrap_or.ensures) (relaxes_greatest table best c.args.to 128 (omega arith) c.requires)

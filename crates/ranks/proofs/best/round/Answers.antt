@@ -1,11 +1,10 @@
-use Rattle.ranks.proofs.Rounds.{part_none, part_more, part_all}
+use Rattle.std.proofs.Common.{rules}
+use Rattle.lists.proofs.FromFn.{from_fn_each}
+use Rattle.ranks.specs.Relaxing.{Relaxes}
 use Rattle.ranks.proofs.best.round.Goals as goal
 
-pub tos-init : goal.tos-init
-tos-init c = part_none c.args.table.now c.args.best.now
-
-pub tos-preserved : goal.tos-preserved
-tos-preserved c = part_more c.args.table.now c.args.best.now c.tos.next c.tos.to c.relax.result c.tos.invariant c.tos-test.true c.relax.ensures
-
 pub returns : goal.returns
-returns c = part_all c.args.table.now c.args.best.now c.tos.next c.tos.to c.tos.invariant c.tos-test.false
+returns c = record {
+  long = c.from_fn.ensures.items.long;
+  each = λ to l. from_fn_each _ (λ x r. Relaxes c.args.table.now c.args.best.now 128 x r) _ _ (λ x y q k. search rules) 128 c.from_fn.ensures.items to 0 l;
+}

@@ -29,7 +29,7 @@ impl Learning {
     // One predicate more; if 32 were known, it is one too many.
     fn learn_new(&mut self, word: Word, columns: usize)
         requires { length (predicates_of self.old.known) < 40 }
-        ensures { NewLearned (take 8 word.text.now) columns word.place self.old self.new }
+        ensures { NewLearned (take 8 word.entry.text.now) columns word.entry.place self.old self.new }
     {
         if self.known.len() == PREDICATES {
             self.extra = Some(word.place);

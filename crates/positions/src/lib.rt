@@ -18,10 +18,8 @@ const COLUMNS: usize = 4;
 fn is_known(book: &Book, position: usize) -> bool
     ensures { Decides result (KnownPosition (plain_book book.now) position) }
 {
-    match book.predicate(position / COLUMNS) {
-        Some(predicate) => position % COLUMNS < predicate.columns,
-        None => false,
-    }
+    book.predicate(position / COLUMNS)
+        .is_some_and(|predicate| position % COLUMNS < predicate.columns)
 }
 
 // The rank of a known position, or that it is infinite. A position that is not known is refused.
@@ -29,10 +27,7 @@ pub fn rank(book: &Book, position: usize) -> Result<Rank, Refusal>
     ensures { RankTold (plain_book book.now) position result }
 {
     if !is_known(book, position) {
-        return Err(Refusal {
-            question: Question::Known,
-            place: 0,
-        });
+        return Err(Question::Known.at(0));
     }
     let table = edges(book.rules());
     let told = ranks(&table);

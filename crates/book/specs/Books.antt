@@ -1,5 +1,5 @@
--- What a book in memory holds, and what is prepared before a rule is added.
-use Rattle.std.specs.Prelude.{◌≡◌, ℕ, List, [], ◌∷◌, ◌++◌, Ok, Err, vec_items, Result}
+-- What is asked and prepared before a rule is added.
+use Rattle.std.specs.Prelude.{◌≡◌, ℕ, List, [], ◌∷◌, ◌++◌, Ok, Err, Result}
 use Rattle.questions.specs.declared.question.Question.TheVariants.{LabelUnused}
 use Rattle.questions.specs.declared.question.Refusal.{Refusal}
 use Rattle.patterns.specs.Tables.{word_of}
@@ -10,11 +10,7 @@ use Rattle.naming.specs.declared.predicate.Predicates.{Predicates}
 use Rattle.book.specs.Book as plain
 use Rattle.book.specs.Asking.{Turned, Passes}
 use Rattle.book.specs.Changing.{Adds}
-use Rattle.book.specs.Views.{plain_entry, book_of}
-use Rattle.book.specs.declared.book.Book.{Book}
-
-abbrev pub plain_book : Book → plain.Book
-plain_book b = book_of (vec_items b.rules) b.known
+use Rattle.book.specs.Views.{plain_entry}
 
 -- no standing rule carries the line's label; or one does
 abbrev pub LabelAsked : plain.Book → RuleLine → Result (Unit {0}) Refusal → Type 0

@@ -1,7 +1,7 @@
 // Adding a rule line: its questions in their order, and what it would make of the book.
 ghost use Rattle.book.specs.Changing.{Added};
 ghost use Rattle.book.specs.Law.{Determined, Decided};
-ghost use Rattle.book.specs.Books.{plain_book, LabelAsked, Prepared};
+ghost use Rattle.book.specs.Books.{LabelAsked, Prepared};
 
 use super::{Book, RULES};
 use crate::learning::Learning;
@@ -14,7 +14,7 @@ use rules::rule::Rule;
 
 impl Book {
     fn check_label(&self, rule: &RuleLine) -> Result<(), Refusal>
-        ensures { LabelAsked (plain_book self.now) rule.now result }
+        ensures { LabelAsked self.now rule.now result }
     {
         if self.find(rule.label.text).is_some() {
             return Err(Question::LabelUnused.at(rule.label.place));
@@ -24,7 +24,7 @@ impl Book {
 
     // The line's rule by number, and the predicates that would be known. The book is left as it is, so that a refusal alters nothing.
     fn prepare(&self, line: &[u8]) -> Result<(Rule, Predicates), Refusal>
-        ensures { Prepared (plain_book self.now) line.now result }
+        ensures { Prepared self.now line.now result }
     {
         let written = read_rule(line)?;
         self.check_label(&written)?;
@@ -41,9 +41,9 @@ impl Book {
 
     // The line's rule stands last and its predicates become known; or the first question that answers no turns it away, and nothing changes.
     pub fn add(&mut self, line: &[u8]) -> Result<(), Refusal>
-        ensures added { Added (plain_book self.old) line.now (plain_book self.new) result }
-        ensures determined { Determined (plain_book self.old) }
-        ensures decided { Decided (plain_book self.old) line.now }
+        ensures added { Added self.old line.now self.new result }
+        ensures determined { Determined self.old }
+        ensures decided { Decided self.old line.now }
     {
         let (rule, known) = self.prepare(line)?;
         self.known = known;

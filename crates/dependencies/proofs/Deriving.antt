@@ -1,9 +1,6 @@
 -- The least set of the system of positions is that of the affected positions.
-use Rattle.std.proofs.Common.{◌≡◌, ℕ, ◌+◌, ◌*◌, ◌/◌, ◌%◌, ◌<◌, Bool, false, ltb, List, [], map, length, get_or, set, Some, None, Decides, Option, sym, refl, ap, ◌∙◌, subst, ⊎_elim, arith, length-set}
+use Rattle.std.proofs.Common.{◌≡◌, ℕ, ◌+◌, ◌*◌, ◌/◌, ◌%◌, ◌<◌, Bool, false, List, [], map, length, get_or, Some, None, Decides, Option, sym, refl, ap, ◌∙◌, subst, arith}
 use Rattle.std.proofs.Math.ListN.{length-map}
-use Rattle.std.proofs.lemmas.List.{get_or-set_same, get_or-set_other}
-use Rattle.std.proofs.lemmas.Bool.Decides.{Decides-at, Decides-ltb}
-use Rattle.std.proofs.lemmas.Bool.{cases_eq}
 use Rattle.std.specs.List.{slice_get}
 use Rattle.lists.specs.Places.{At}
 use Rattle.lists.proofs.Numbered.{at_same, at_below, at_get, get_at}
@@ -84,18 +81,7 @@ module _ (rules : List Rule) (n : ℕ) (long : n ≡ 16 * length rules) (small :
   affected_within {p} (first_affected i (r, e, here, x, t)) = stands_small r.head e p (small i r here).1 t
   affected_within {p} (affected_through i v (r, here, front, t) before) = stands_small r.head v p (small i r here).1 t
 
--- the table that the code makes of the rounds
-pub told_next : (table : List Bool) (rounds : List ℕ) (n : ℕ) → n < 128 → (length table ≡ 128) × ((k : ℕ) → k < n → Decides (get_or table k false) (0 < get_or rounds k 0))
-    → (length (set table n (ltb 0 (get_or rounds n 0))) ≡ 128) × ((k : ℕ) → k < n + 1 → Decides (get_or (set table n (ltb 0 (get_or rounds n 0))) k false) (0 < get_or rounds k 0))
-told_next table rounds n l (long, each) = (length-set table n (ltb 0 (get_or rounds n 0)) ∙ long, next)
-  where
-    next : (k : ℕ) → k < n + 1 → Decides (get_or (set table n (ltb 0 (get_or rounds n 0))) k false) (0 < get_or rounds k 0)
-    next k h =
-        ⊎_elim
-        (λ same. subst (λ j. Decides (get_or (set table n (ltb 0 (get_or rounds n 0))) j false) (0 < get_or rounds j 0)) (sym same) (Decides-at _ _ (get_or-set_same table n (ltb 0 (get_or rounds n 0)) false (omega arith)) (Decides-ltb 0 (get_or rounds n 0))))
-        (λ ne. Decides-at _ _ (get_or-set_other table n k (ltb 0 (get_or rounds n 0)) false ne) (each k (omega arith)))
-        (cases_eq k n)
-
+-- the table of the rounds
 pub affections : (rules : List memory.Rule) (rounds : List ℕ) (table : List Bool) → Found 128 (FirstOf (map plain_rule rules)) (Step (16 * length rules) (needs_of (map plain_rule rules)) (leads_of (map plain_rule rules))) rounds
     → length table ≡ 128 → ((k : ℕ) → k < 128 → Decides (get_or table k false) (0 < get_or rounds k 0)) → Affections (map plain_rule rules) table
 affections rules rounds table found long each = record {

@@ -1,4 +1,6 @@
 pub mod Deriving
+pub mod Finding
+pub mod Listing
 pub mod Looking
 pub mod Passing
 pub mod Raising

@@ -1,102 +1,83 @@
 -- The system of positions, step by step.
-use Rattle.std.proofs.Common.{◌≡◌, ℕ, ◌+◌, ◌/◌, ◌%◌, ◌<◌, ◌≤◌, Bool, true, false, List, map, length, get_or, Some, Decides, Option, sym, refl, ap, ◌∙◌, subst, ⊎_elim, arith}
-use Rattle.std.proofs.Math.ListN.{length-map}
-use Rattle.std.specs.List.{slice_get}
-use Rattle.std.proofs.lemmas.Bool.{false≢true, cases_eq}
-use Rattle.lists.specs.Places.{At}
-use Rattle.lists.proofs.Numbered.{at_same, at_below, at_get, get_at}
-use Rattle.lists.proofs.Mapped.{at_map_get}
-use Rattle.lists.proofs.Elements.{at_nth}
+use Rattle.std.proofs.Common.{◌≡◌, ℕ, ◌<◌, Bool, false, List, map, length, get_or, Some, None, Decides, Option, sym, refl, ◌∙◌, subst, arith}
+use Rattle.std.specs.Option.{MatchOption, option_map}
+use Rattle.std.proofs.lemmas.Bool.{false≢true}
+use Rattle.lists.proofs.Elements.{map_at}
+use Rattle.lists.proofs.Mapped.{at_map}
+use Rattle.lists.proofs.Numbered.{at_below, at_get, get_at}
 use Rattle.theory.specs.Rules.{In}
 use Rattle.theory.specs.Rules as plain
-use Rattle.theory.specs.Occurrences.{occurrence_of, Is, OccursAt, positions_of}
-use Rattle.theory.proofs.Occurring.{number_stands, stands_in, EachBelow, each_stands}
-use Rattle.theory.proofs.Positions.{positions_has, positions_only, positions_some}
+use Rattle.theory.specs.Occurrences.{positions_of}
+use Rattle.theory.proofs.Occurring.{stands_in}
+use Rattle.theory.proofs.Positions.{positions_some, positions_only}
 use Rattle.rules.specs.declared.rule.Rule as memory
-use Rattle.rules.specs.declared.rule.Side.{Side}
+use Rattle.dependencies.specs.declared.occurrence.Occurrence.{Occurrence}
+use Rattle.dependencies.specs.Views.{pair}
 use Rattle.rules.specs.Views.{plain_side, plain_rule}
 use Rattle.rules.proofs.Smallness.{side_small}
 use Rattle.fixpoint.specs.Least.{FoundBy, Held}
-use Rattle.fixpoint.specs.Steps.{Ready, Single}
-use Rattle.dependencies.specs.Affecting.{FirstOf, FirstIn, needs_through, needs_in, needs_of, leads_through, leads_in, leads_of}
+use Rattle.fixpoint.specs.Steps.{Ready}
+use Rattle.dependencies.specs.Affecting.{FirstOf, FirstIn, needs_through}
+use Rattle.dependencies.specs.Occurring.{occurrences_of}
+use Rattle.dependencies.proofs.Listing.{listed_stands, stands_listed}
+use Rattle.dependencies.proofs.Looking.{SomeOf, EachOf}
 
--- each item by its number, and each by itself
-pub held_all : (rounds : List ℕ) (r : ℕ) (ps : List ℕ) → ((k q : ℕ) → At ps k q → FoundBy rounds r q) → Held rounds r ps
-held_all rounds r ps h k l = h k (get_or ps k 0) (get_at ps k 0 l)
+-- the occurrence o of a head is at the position p, and its variable is not in the body
+abbrev pub FirstAt : memory.Rule → ℕ → ℕ × ℕ → Type 0
+FirstAt x p o = (o.1 ≡ p) × (In (plain_side x.body) o.0 → ⊥)
 
-pub held_at : (rounds : List ℕ) (r : ℕ) (ps : List ℕ) → Held rounds r ps → (k q : ℕ) → At ps k q → FoundBy rounds r q
-held_at rounds r ps h k q here = subst (FoundBy rounds r) (at_get ps k q 0 here) (h k (at_below ps k q here))
-
--- the positions found so far by the code
-module _ (d : Side) (v : ℕ) (rounds : List ℕ) (r : ℕ) where
-  pub all_held : EachBelow (λ u p. u ≡ v → FoundBy rounds r p) (plain_side d) 16 → Decides true (Held rounds r (positions_of (plain_side d) v))
-  all_held all = ((λ _. held_all rounds r (positions_of (plain_side d) v) (λ k p t. each_stands (λ u q. u ≡ v → FoundBy rounds r q) (plain_side d) (side_small d) all v p (positions_only (plain_side d) v k p t) refl)), λ _. refl)
-
-  pub not_held : (n u p : ℕ) → Some (u, p) ≡ occurrence_of (plain_side d) n → u ≡ v → (FoundBy rounds r p → ⊥) → Decides false (Held rounds r (positions_of (plain_side d) v))
-  not_held n u p e f lacks = (
-    λ g. absurd (false≢true g),
-    λ h.
-        let here : OccursAt (plain_side d) n v p = subst (λ (o : Option (ℕ × ℕ)). Is o v p) e (f, refl) in
-        let (k, t) = positions_has (plain_side d) v (side_small d) p (number_stands (plain_side d) n v p here) in
-        absurd (lacks (held_at rounds r (positions_of (plain_side d) v) h k p t)),
-  )
+abbrev pub NotFirstAt : memory.Rule → ℕ → ℕ × ℕ → Type 0
+NotFirstAt x p o = o.1 ≡ p → In (plain_side x.body) o.0
 
 -- the first affected positions of one rule
-module _ (x : memory.Rule) (p : ℕ) where
-  pub is_first : (n u q : ℕ) → Some (u, q) ≡ occurrence_of (plain_side x.head) n → q ≡ p → (In (plain_side x.body) u → ⊥) → Decides true (FirstIn (plain_rule x) p)
-  is_first n u q e f absent =
-      let here = number_stands (plain_side x.head) n u p (subst (λ (o : Option (ℕ × ℕ)). Is o u p) e (refl, f)) in
-      ((λ _. (u, (stands_in (plain_side x.head) u p here, absent), here)), λ _. refl)
+pub first_in : (x : memory.Rule) (p : ℕ) (r : Bool) → Decides r (SomeOf (FirstAt x p) (occurrences_of (plain_side x.head))) → Decides r (FirstIn (plain_rule x) p)
+first_in x p r h = ((λ t. found (h.0 t)), λ t. h.1 (back t))
+  where
+    found : SomeOf (FirstAt x p) (occurrences_of (plain_side x.head)) → FirstIn (plain_rule x) p
+    found (k, o, here, (e, absent)) =
+        let head = subst (λ q. plain.Stands (plain_side x.head) o.0 q) e (listed_stands (plain_side x.head) k o.0 o.1 here) in
+        (o.0, (stands_in (plain_side x.head) o.0 p head, absent), head)
 
-  pub not_first : EachBelow (λ u q. q ≡ p → In (plain_side x.body) u) (plain_side x.head) 16 → Decides false (FirstIn (plain_rule x) p)
-  not_first all = (
-    λ e. absurd (false≢true e),
-    λ (u, exists, head). absurd (exists.1 (each_stands (λ w q. q ≡ p → In (plain_side x.body) w) (plain_side x.head) (side_small x.head) all u p head refl)),
-  )
+    back : FirstIn (plain_rule x) p → SomeOf (FirstAt x p) (occurrences_of (plain_side x.head))
+    back (u, exists, head) = let (k, here) = stands_listed (plain_side x.head) (side_small x.head) u p head in (k, (u, p), here, (refl, exists.1))
 
 -- and of all rules
-module _ (rules : List memory.Rule) (p : ℕ) where
-  pub some_first : (i : ℕ) (d : memory.Rule) → i < length rules → FirstIn (plain_rule (get_or rules i d)) p → Decides true (FirstOf (map plain_rule rules) p)
-  some_first i d l (u, exists, head) = ((λ _. (i, (plain_rule (get_or rules i d), u, at_map_get plain_rule rules i d l, exists, head))), λ _. refl)
+pub first_of : (rules : List memory.Rule) (p : ℕ) (r : Bool) → Decides r (SomeOf (λ x. FirstIn (plain_rule x) p) rules) → Decides r (FirstOf (map plain_rule rules) p)
+first_of rules p r h = ((λ t. found (h.0 t)), λ t. h.1 (back t))
+  where
+    found : SomeOf (λ x. FirstIn (plain_rule x) p) rules → FirstOf (map plain_rule rules) p
+    found (i, x, here, (u, exists, head)) = (i, (plain_rule x, u, map_at plain_rule rules i x here, exists, head))
 
-  pub none_first_next : (i : ℕ) (d : memory.Rule) → i < length rules → (FirstIn (plain_rule (get_or rules i d)) p → ⊥) → ((j : ℕ) (r : plain.Rule) → j < i → At (map plain_rule rules) j r → FirstIn r p → ⊥) → (j : ℕ) (r : plain.Rule) → j < i + 1 → At (map plain_rule rules) j r → FirstIn r p → ⊥
-  none_first_next i d l lacks before j r h here first =
-      ⊎_elim
-      (λ same. lacks (subst (λ (y : plain.Rule). FirstIn y p) (at_same (map plain_rule rules) i r (plain_rule (get_or rules i d)) (subst (λ k. At (map plain_rule rules) k r) same here) (at_map_get plain_rule rules i d l)) first))
-      (λ ne. before j r (omega arith) here first)
-      (cases_eq j i)
+    back : FirstOf (map plain_rule rules) p → SomeOf (λ x. FirstIn (plain_rule x) p) rules
+    back (i, (y, u, here, exists, head)) = let (x, there, e) = at_map plain_rule rules i y here in (i, x, there, subst (λ (z : plain.Rule). FirstIn z p) (sym e) (u, exists, head))
 
-  pub none_first : (i : ℕ) → length rules ≤ i → ((j : ℕ) (r : plain.Rule) → j < i → At (map plain_rule rules) j r → FirstIn r p → ⊥) → Decides false (FirstOf (map plain_rule rules) p)
-  none_first i past none = (
-    λ e. absurd (false≢true e),
-    λ (j, (r, u, here, exists, head)).
-        let l = at_below (map plain_rule rules) j r here in
-        let m = length-map rules plain_rule in
-        absurd (none j r (omega arith) here (u, exists, head)),
-  )
+-- the positions of the occurrences os are found
+pub held_each : (rounds : List ℕ) (before : ℕ) (os : List (ℕ × ℕ)) (r : Bool) → Decides r (EachOf (λ (o : ℕ × ℕ). FoundBy rounds before o.1) os) → Decides r (Held rounds before (map (λ (o : ℕ × ℕ). o.1) os))
+held_each rounds before os r h = ((λ t. found (h.0 t)), λ t. h.1 (back t))
+  where
+    ps : List ℕ
+    ps = map (λ (o : ℕ × ℕ). o.1) os
 
--- what a step waits for, and where it leads
-module _ (rules : List memory.Rule) (s : ℕ) (d : memory.Rule) (l : s / 16 < length rules) where
-  -- the rule of the step
-  abbrev x : memory.Rule
-  x = get_or rules (s / 16) d
+    found : EachOf (λ (o : ℕ × ℕ). FoundBy rounds before o.1) os → Held rounds before ps
+    found each k l = let (o, here, e) = at_map (λ (o : ℕ × ℕ). o.1) os k (get_or ps k 0) (get_at ps k 0 l) in subst (FoundBy rounds before) e (each k o here)
 
-  found_rule : slice_get (map plain_rule rules) (s / 16) ≡ Some (plain_rule x)
-  found_rule = at_nth (map plain_rule rules) (s / 16) (plain_rule x) (at_map_get plain_rule rules (s / 16) d l)
+    back : Held rounds before ps → EachOf (λ (o : ℕ × ℕ). FoundBy rounds before o.1) os
+    back all k o here =
+        let there = map_at (λ (o : ℕ × ℕ). o.1) os k o here in
+        subst (FoundBy rounds before) (at_get ps k o.1 0 there) (all k (at_below ps k o.1 there))
 
-  pub leads_at : (o : Option (ℕ × ℕ)) → o ≡ occurrence_of (plain_side x.head) (s % 16) → leads_through o ≡ leads_of (map plain_rule rules) s
-  leads_at o f = ap leads_through f ∙ sym (ap (leads_in (s % 16)) found_rule)
+-- a variable that has a position is there
+positions_in : (atoms : List plain.Atom) (v : ℕ) → 0 < length (positions_of atoms v) → In atoms v
+positions_in atoms v l = let p = get_or (positions_of atoms v) 0 0 in stands_in atoms v p (positions_only atoms v 0 p (get_at (positions_of atoms v) 0 0 l))
 
-  pub needs_at : (o : Option (ℕ × ℕ)) → o ≡ occurrence_of (plain_side x.head) (s % 16) → needs_through (plain_rule x) o ≡ needs_of (map plain_rule rules) s
-  needs_at o f = ap (needs_through (plain_rule x)) f ∙ sym (ap (needs_in (s % 16)) found_rule)
+-- what is said of an occurrence, said of the pair
+pub matched : (N : Type 0) (Q : ℕ × ℕ → Type 0) (o : Option Occurrence) → MatchOption o N (λ x. Q (pair x)) → MatchOption (option_map pair o) N Q
+matched N Q None h = h
+matched N Q (Some x) h = h
 
-  pub single_at : (o : Option (ℕ × ℕ)) (r : Option ℕ) → o ≡ occurrence_of (plain_side x.head) (s % 16) → Single (needs_through (plain_rule x) o) r → Single (needs_of (map plain_rule rules) s) r
-  single_at o r f h = subst (λ (ps : List ℕ). Single ps r) (needs_at o f) h
-
-  -- whether the step is ready
-  module _ (rounds : List ℕ) (r : ℕ) where
-    pub ready_at : (u q : ℕ) (b : Bool) → Some (u, q) ≡ occurrence_of (plain_side x.head) (s % 16) → In (plain_side x.body) u → Decides b (Held rounds r (positions_of (plain_side x.body) u)) → Decides b (Ready rounds r (needs_of (map plain_rule rules) s))
-    ready_at u q b f inside d = subst (λ (ps : List ℕ). Decides b (Ready rounds r ps)) (needs_at (Some (u, q)) f) ((λ t. (positions_some (plain_side x.body) u (side_small x.body) inside, d.0 t)), λ t. d.1 t.1)
-
-    pub not_ready : (o : Option (ℕ × ℕ)) → o ≡ occurrence_of (plain_side x.head) (s % 16) → length (needs_through (plain_rule x) o) ≡ 0 → Decides false (Ready rounds r (needs_of (map plain_rule rules) s))
-    not_ready o f none = subst (λ (ps : List ℕ). Decides false (Ready rounds r ps)) (needs_at o f) ((λ t. absurd (false≢true t)), λ t. absurd (omega (arith, none, t.0)))
+-- whether the step of a head occurrence is ready
+pub ready_through : (x : memory.Rule) (rounds : List ℕ) (before : ℕ) (o : Option (ℕ × ℕ)) (r : Bool)
+    → MatchOption o (r ≡ false) (λ o. Decides r (In (plain_side x.body) o.0 × Held rounds before (positions_of (plain_side x.body) o.0)))
+    → Decides r (Ready rounds before (needs_through (plain_rule x) o))
+ready_through x rounds before None r e = ((λ t. absurd (false≢true (sym e ∙ t))), λ t. absurd (omega (arith, t.0)))
+ready_through x rounds before (Some o) r d = ((λ t. let (inside, held) = d.0 t in (positions_some (plain_side x.body) o.0 (side_small x.body) inside, held)), λ t. d.1 (positions_in (plain_side x.body) o.0 t.0, t.1))

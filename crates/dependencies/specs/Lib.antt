@@ -1,3 +1,4 @@
 pub mod Affecting
+pub mod Occurring
 pub mod Tables
 pub mod Views

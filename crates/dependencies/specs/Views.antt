@@ -1,8 +1,7 @@
 -- Occurrences in memory, as the definitions have them.
-use Rattle.std.specs.Prelude.{ℕ, Some, None, Option}
+use Rattle.std.specs.Prelude.{ℕ}
 use Rattle.dependencies.specs.declared.occurrence.Occurrence.{Occurrence}
 
 -- an occurrence as a pair of variable and position
-abbrev pub view : Option Occurrence → Option (ℕ × ℕ)
-view None = None
-view (Some o) = Some (o.variable, o.position)
+abbrev pub pair : Occurrence → ℕ × ℕ
+pair o = (o.variable, o.position)

@@ -2,64 +2,54 @@
 ghost use Rattle.std.specs.Prelude.{◌*◌, map, length, Decides};
 ghost use Rattle.rules.specs.Views.{plain_rule, plain_side};
 ghost use Rattle.fixpoint.specs.Least.{Held};
-ghost use Rattle.fixpoint.specs.Steps.{Single};
-ghost use Rattle.theory.specs.Occurrences.{positions_of};
-ghost use Rattle.dependencies.specs.Affecting.{FirstOf, needs_of, leads_of, FirstIn, Affections};
+ghost use Rattle.fixpoint.specs.Steps.{Ready, Single};
+ghost use Rattle.theory.specs.Occurrences.{occurrence_of, positions_of};
+ghost use Rattle.dependencies.specs.Affecting.{FirstOf, needs_of, leads_of, needs_through, FirstIn, Affections};
 
-use crate::occurrence::MOST;
 use crate::positions::Positions;
-use crate::reading::{contains, occurrence};
+use crate::reading::{MOST, contains, occurrence, occurrences_in};
 use fixpoint::{Round, System, found_by, search};
+use ranks::table::POSITIONS;
 use rules::rule::{Rule, Side};
+use std::array;
 
 // Whether the position is a head position of an existential variable of the rule.
 fn is_first_in(rule: &Rule, position: usize) -> bool
     ensures { Decides result (FirstIn (plain_rule rule.now) position) }
 {
-    'heads: for n in 0..MOST {
-        if let Some(o) = occurrence(&rule.head, n) {
-            if o.position == position {
-                if !contains(&rule.body, o.variable) {
-                    return true;
-                }
-            }
-        }
-    }
-    false
+    occurrences_in(&rule.head).any(|o| o.position == position && !contains(&rule.body, o.variable))
 }
 
 // Whether all positions of the variable in the side are found by the round `before`.
 fn all_found(side: &Side, variable: u8, rounds: &[Round; 1024], before: Round) -> bool
     ensures { Decides result (Held rounds.now before (positions_of (plain_side side.now) variable)) }
 {
-    'waits: for n in 0..MOST {
-        if let Some(o) = occurrence(side, n) {
-            if o.variable == variable {
-                if !found_by(rounds, o.position, before) {
-                    return false;
-                }
-            }
-        }
-    }
-    true
+    occurrences_in(side)
+        .filter(|o| o.variable == variable)
+        .all(|o| found_by(rounds, o.position, before))
 }
 
 // The position of the one occurrence of the variable in the side; none if it does not occur, or twice or more.
 fn only_position(side: &Side, variable: u8) -> Option<usize>
     ensures { Single (positions_of (plain_side side.now) variable) result }
 {
-    let mut only: Option<usize> = None;
-    'bodies: for n in 0..MOST {
-        if let Some(o) = occurrence(side, n) {
-            if o.variable == variable {
-                if only.is_some() {
-                    return None;
-                }
-                only = Some(o.position);
-            }
-        }
+    let mut positions = occurrences_in(side)
+        .filter(|o| o.variable == variable)
+        .map(|o| o.position);
+    let only = positions.next()?;
+    match positions.next() {
+        Some(_) => None,
+        None => Some(only),
     }
-    only
+}
+
+// Whether head occurrence `n` of the rule is of a frontier variable all of whose body positions are found by the round `before`.
+fn is_ready(rule: &Rule, n: usize, rounds: &[Round; 1024], before: Round) -> bool
+    ensures { Decides result (Ready rounds.now before (needs_through (plain_rule rule.now) (occurrence_of (plain_side rule.now.head) n))) }
+{
+    occurrence(&rule.head, n).is_some_and(|o| {
+        contains(&rule.body, o.variable) && all_found(&rule.body, o.variable, rounds, before)
+    })
 }
 
 impl System for Positions<'_> {
@@ -74,17 +64,11 @@ impl System for Positions<'_> {
     ghost leads = { λ y s. leads_of (map plain_rule y.rules.now) s };
 
     fn items(&self) -> usize {
-        128
+        POSITIONS
     }
 
     fn is_first(&self, i: usize) -> bool {
-        'rules: for k in 0..self.rules.len() {
-            let rule = self.rules[k];
-            if is_first_in(&rule, i) {
-                return true;
-            }
-        }
-        false
+        self.rules.iter().any(|rule| is_first_in(rule, i))
     }
 
     fn steps(&self) -> usize {
@@ -92,52 +76,29 @@ impl System for Positions<'_> {
     }
 
     fn target(&self, s: usize) -> usize {
-        let i = s / MOST;
-        if i >= self.rules.len() {
-            return 128;
-        }
-        let rule = self.rules[i];
-        match occurrence(&rule.head, s % MOST) {
-            Some(o) => o.position,
-            None => 128,
-        }
+        self.rules
+            .get(s / MOST)
+            .and_then(|rule| occurrence(&rule.head, s % MOST))
+            .map_or(POSITIONS, |o| o.position)
     }
 
     fn ready(&self, s: usize, rounds: &[Round; 1024], before: Round) -> bool {
-        let i = s / MOST;
-        if i >= self.rules.len() {
-            return false;
-        }
-        let rule = self.rules[i];
-        if let Some(o) = occurrence(&rule.head, s % MOST) {
-            if contains(&rule.body, o.variable) {
-                return all_found(&rule.body, o.variable, rounds, before);
-            }
-        }
-        false
+        self.rules
+            .get(s / MOST)
+            .is_some_and(|rule| is_ready(rule, s % MOST, rounds, before))
     }
 
     fn single(&self, s: usize) -> Option<usize> {
-        let i = s / MOST;
-        if i >= self.rules.len() {
-            return None;
-        }
-        let rule = self.rules[i];
-        match occurrence(&rule.head, s % MOST) {
-            Some(o) => only_position(&rule.body, o.variable),
-            None => None,
-        }
+        let rule = self.rules.get(s / MOST)?;
+        let o = occurrence(&rule.head, s % MOST)?;
+        only_position(&rule.body, o.variable)
     }
 }
 
-// Which of the 128 positions are affected.
-pub fn affected(rules: &[Rule]) -> [bool; 128]
+// Which positions are affected.
+pub fn affected(rules: &[Rule]) -> [bool; POSITIONS]
     ensures { Affections (map plain_rule rules.now) result }
 {
     let rounds = search(&Positions { rules });
-    let mut table = [false; 128];
-    'positions: for p in 0..128 {
-        table[p] = 0 < rounds[p];
-    }
-    table
+    array::from_fn(|p| 0 < rounds[p])
 }

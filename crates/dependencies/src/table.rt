@@ -1,53 +1,47 @@
 // The table of edges between positions.
-ghost use Rattle.std.specs.Prelude.{◌<◌, map};
+ghost use Rattle.std.specs.Prelude.{map};
 ghost use Rattle.rules.specs.Views.{plain_rule};
-ghost use Rattle.dependencies.specs.Tables.{Tabulated, Level, Raised, One, EdgesFrom, EdgesOf};
+ghost use Rattle.dependencies.specs.Tables.{Tabulated, EdgeIs, Raised, One, EdgesFrom, EdgesOf};
+ghost use Rattle.dependencies.specs.Views.{pair};
 
-use crate::occurrence::{MOST, Occurrence};
-use crate::reading::{contains, occurrence};
-use ranks::table::Table;
+use crate::occurrence::Occurrence;
+use crate::reading::{contains, occurrences_in};
+use ranks::edge::Edge;
+use ranks::table::{ENTRIES, POSITIONS, Table};
 use rules::rule::Rule;
 
-// The edge from the variable `from` of the body to the variable `to` of the head: 2 special, 1 normal, 0 none.
-fn level(rule: &Rule, from: u8, to: u8) -> u8
-    ensures { Level (plain_rule rule.now) from to result }
+// The edge from the variable `from` of the body to the variable `to` of the head, if there is one.
+fn edge_between(rule: &Rule, from: u8, to: u8) -> Option<Edge>
+    ensures { EdgeIs (plain_rule rule.now) from to result }
 {
-    if contains(&rule.head, from) {
-        if !contains(&rule.body, to) {
-            return 2;
-        }
+    if contains(&rule.head, from) && !contains(&rule.body, to) {
+        Some(Edge::Special)
+    } else if from == to {
+        Some(Edge::Normal)
+    } else {
+        None
     }
-    if from == to {
-        return 1;
-    }
-    0
 }
 
-// Raises one entry to the level; one that is as high stays.
-fn raise(table: &mut Table, from: usize, to: usize, level: u8)
-    requires from { from < 128 }
-    requires to { to < 128 }
-    ensures { Raised (One from to level) table.old table.new }
+// Raises one entry to the edge: a special edge is above a normal one, and that above none.
+fn raise(table: &mut Table, from: Occurrence, to: Occurrence, edge: Option<Edge>)
+    ensures { Raised (One from.position to.position edge) table.old table.new }
 {
-    let at = 128 * from + to;
-    if table[at] < level {
-        table[at] = level;
-    }
+    let at = POSITIONS * from.position + to.position;
+    table[at] = table[at].max(edge);
 }
 
 // Raises the entries for the edges from one body occurrence.
 fn add_from(table: &mut Table, rule: &Rule, from: Occurrence)
-    ensures { Raised (EdgesFrom (plain_rule rule.now) from.variable from.position) table.old table.new }
+    ensures { Raised (EdgesFrom (plain_rule rule.now) (pair from)) table.old table.new }
 {
-    'heads: for n in 0..MOST {
-        if let Some(to) = occurrence(&rule.head, n) {
-            raise(
-                table,
-                from.position,
-                to.position,
-                level(rule, from.variable, to.variable),
-            );
-        }
+    for to in occurrences_in(&rule.head) {
+        raise(
+            table,
+            from,
+            to,
+            edge_between(rule, from.variable, to.variable),
+        );
     }
 }
 
@@ -55,21 +49,18 @@ fn add_from(table: &mut Table, rule: &Rule, from: Occurrence)
 fn add_rule(table: &mut Table, rule: &Rule)
     ensures { Raised (EdgesOf (plain_rule rule.now)) table.old table.new }
 {
-    'bodies: for n in 0..MOST {
-        if let Some(from) = occurrence(&rule.body, n) {
-            add_from(table, rule, from);
-        }
+    for from in occurrences_in(&rule.body) {
+        add_from(table, rule, from);
     }
 }
 
-// The table of edges between 128 positions: entry 128 × p + q is 2 for a special edge from p to q, else 1 for a normal one, else 0.
+// The table of edges between 128 positions: entry 128 × p + q is special if some edge from p to q is, else normal if there is one, else none.
 pub fn edges(rules: &[Rule]) -> Table
     ensures { Tabulated (map plain_rule rules.now) result }
 {
-    let mut table = [0; 16384];
-    'rules: for i in 0..rules.len() {
-        let rule = rules[i];
-        add_rule(&mut table, &rule);
+    let mut table = [None; ENTRIES];
+    for rule in rules {
+        add_rule(&mut table, rule);
     }
     table
 }

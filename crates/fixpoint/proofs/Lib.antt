@@ -1,3 +1,5 @@
+pub mod Beginning
+pub mod Growing
 pub mod Items
 pub mod Rounds
 pub mod Only

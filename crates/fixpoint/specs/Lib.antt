@@ -1,3 +1,4 @@
+pub mod Growing
 pub mod Least
 pub mod Steps
 pub mod Ways

@@ -3,6 +3,7 @@
 
 ghost use Rattle.std.specs.Prelude.{◌≡◌, ℕ, ◌<◌, ◌≤◌, List, [], ◌∷◌, Decides, slice_index};
 ghost use Rattle.fixpoint.specs.Least.{FoundBy, Found, Determined};
+ghost use Rattle.fixpoint.specs.Growing.{Begun, Grown};
 ghost use Rattle.fixpoint.specs.Steps.{Step, Ready, Single};
 ghost use Rattle.fixpoint.specs.Ways.{Ordered, Grounded};
 
@@ -76,38 +77,48 @@ pub fn found_by(rounds: &Rounds, item: usize, before: Round) -> bool
     (1..=before).contains(&round_of(rounds, item))
 }
 
+/// The table before any step: a first item has round 1.
+// A loop, since with `array::from_fn` the goal on the generic closure did not close.
+fn begin<Y: System>(system: &Y) -> Rounds
+    ensures { Begun (Y.size system.now) (Y.first system.now) result }
+{
+    let mut rounds = [0; 1024];
+    for item in 0..system.items() {
+        if system.is_first(item) {
+            rounds[item] = 1;
+        }
+    }
+    rounds
+}
+
+/// Looks at each step once: an item that follows from those found by the round `before` is found in the next. Whether there is one.
+fn grow<Y: System>(system: &Y, rounds: &mut Rounds, before: Round) -> bool
+    requires { before ≤ 1025 }
+    ensures { Grown (Y.size system.now) (Step (Y.count system.now) (Y.needs system.now) (Y.leads system.now)) rounds.old rounds.new before result }
+{
+    let n = system.items();
+    let mut grew = false;
+    for s in 0..system.steps() {
+        let to = system.target(s);
+        let fresh = to < n && rounds[to] == 0;
+        if fresh && system.ready(s, rounds, before) {
+            rounds[to] = before + 1;
+            grew = true;
+        }
+    }
+    grew
+}
+
 /// The round in which each item is found: a step is looked at once a round, until a round finds nothing.
 pub fn search<Y: System>(system: &Y) -> Rounds
     ensures found { Found (Y.size system.now) (Y.first system.now) (Step (Y.count system.now) (Y.needs system.now) (Y.leads system.now)) result }
     ensures determined { Determined (Y.size system.now) (Y.first system.now) (Step (Y.count system.now) (Y.needs system.now) (Y.leads system.now)) }
     ensures grounded { (items : List ℕ) → Ordered result items → Grounded (Y.first system.now) (Step (Y.count system.now) (Y.needs system.now) (Y.leads system.now)) items }
 {
-    let mut rounds = [0u64; 1024];
-    let n = system.items();
-    'firsts: for i in 0..n {
-        if system.is_first(i) {
-            rounds[i] = 1;
-        }
-    }
-    let m = system.steps();
+    let mut rounds = begin(system);
     let mut before: Round = 1;
-    'rounds: loop {
-        let mut grew = false;
-        'steps: for s in 0..m {
-            let to = system.target(s);
-            if to < n {
-                let fresh = rounds[to] == 0;
-                if fresh {
-                    if system.ready(s, &rounds, before) {
-                        rounds[to] = before + 1;
-                        grew = true;
-                    }
-                }
-            }
-        }
-        if !grew {
-            return rounds;
-        }
+    while grow(system, &mut rounds, before) {
         before += 1;
     }
+    rounds
 }

@@ -1,8 +1,8 @@
 -- The numbers of all positions, after rounds of unsettled.
-use Rattle.std.proofs.Common.{◌≡◌, ℕ, zero, suc, ◌+◌, ◌<◌, ◌≤◌, ◌⊎◌, List, [], Option, length, get_or, set, replicate, sym, refl, ◌∙◌, subst, inl, inr, add-one, arith}
+use Rattle.std.proofs.Common.{◌≡◌, ℕ, zero, suc, ◌+◌, ◌<◌, ◌≤◌, ◌⊎◌, List, [], Option, length, get_or, replicate, sym, refl, subst, inl, inr, add-one, arith}
 use Rattle.std.proofs.Math.ListN.{length-replicate}
-use Rattle.std.proofs.lemmas.List.{length-set, get_or-set_same, get_or-set_other, get_or_past}
-use Rattle.std.proofs.lemmas.Bool.{cases_eq, cases_lt}
+use Rattle.std.proofs.lemmas.List.{get_or_past}
+use Rattle.std.proofs.lemmas.Bool.{cases_lt}
 use Rattle.graphs.specs.declared.step.Step.{Step}
 use Rattle.graphs.specs.Walks.{Walk, counts, specials}
 use Rattle.graphs.specs.Potentials.{Attained, Covers, Lifts}
@@ -17,30 +17,7 @@ zeros zero p = refl
 zeros (suc n) zero = refl
 zeros (suc n) (suc p) = zeros n p
 
--- the round is done for the positions below `below`
-pub record Part (table : List (Option Edge)) (old new : List ℕ) (below : ℕ) : Type 0 where
-  pub long : length new ≡ 128
-  pub done : (to : ℕ) → to < below → Relaxes table old 128 to (number new to)
-
 module _ (table : List (Option Edge)) (old : List ℕ) where
-  pub part_none : Part table old (replicate 128 0) 0
-  part_none = record { long = length-replicate {A = ℕ} 128 0; done = λ to l. absurd (omega arith) }
-
-  pub part_more : (new : List ℕ) (below r : ℕ) → Part table old new below → below < 128 → Relaxes table old 128 below r → Part table old (set new below r) (below + 1)
-  part_more new below r h l raises = record {
-    long = length-set new below r ∙ h.long;
-    done = λ to m. at to m (cases_eq to below);
-  }
-    where
-      at : (to : ℕ) → to < below + 1 → (to ≡ below) ⊎ (to ≡ below → ⊥) → Relaxes table old 128 to (number (set new below r) to)
-      at to m (inl e) =
-          let here : number (set new below r) below ≡ r = get_or-set_same new below r 0 (omega (arith, h.long)) in
-          subst (λ k. Relaxes table old 128 k (number (set new below r) k)) (sym e) (subst (λ n. Relaxes table old 128 below n) (sym here) raises)
-      at to m (inr d) = subst (λ n. Relaxes table old 128 to n) (sym (get_or-set_other new below to r 0 d)) (h.done to (omega arith))
-
-  pub part_all : (new : List ℕ) (below : ℕ) → Part table old new below → 128 ≤ below → Round table old new
-  part_all new below h l = record { long = h.long; each = λ to m. h.done to (omega arith) }
-
   -- a round adds one at most
   relaxes_few : (to r k : ℕ) → Relaxes table old 128 to r → ((p : ℕ) → number old p ≤ k) → r ≤ k + 1
   relaxes_few to r k h low = go h.some

@@ -5,7 +5,7 @@ ghost use Rattle.ranks.specs.Tables.{source};
 
 use crate::best::{Numbers, relax};
 use crate::table::{ENTRIES, POSITIONS, Table};
-use fixpoint::{Round, System, found_by};
+use fixpoint::{Round, Rounds, System, found_by};
 
 // The items are the positions, and the steps the entries of the table.
 #[derive(Clone, Copy)]
@@ -41,7 +41,7 @@ impl System for Unsettled<'_> {
         s % POSITIONS
     }
 
-    fn ready(&self, s: usize, rounds: &[Round; 1024], before: Round) -> bool {
+    fn ready(&self, s: usize, rounds: &Rounds, before: Round) -> bool {
         self.single(s)
             .is_some_and(|position| found_by(rounds, position, before))
     }

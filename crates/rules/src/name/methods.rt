@@ -22,7 +22,7 @@ impl Name {
         self.bytes.as_slice()
     }
 
-    // Whether it is this word.
+    // Whether it is this word; a method, since `==` compares values of one type.
     pub fn is(&self, text: &[u8]) -> bool
         ensures { Decides result (text_of self.now ≡ text.now) }
     {

@@ -1,26 +1,28 @@
-use Rattle.std.proofs.Common.{◌≡◌, ℕ, Some, None, ◌∙◌, subst, arith}
-use Rattle.std.proofs.lemmas.Bool.Decides.{not_from_Decides}
-use Rattle.theory.proofs.Occurring.{each_next}
+use Rattle.std.proofs.Common.{ℕ, eqb, List, Decides, subst, rules}
+use borrow.Author.Tests.{tests}
+use Rattle.std.specs.List.{filter}
+use Rattle.std.proofs.lemmas.Iterator.{cases_from_all}
+use Rattle.std.proofs.lemmas.Iterator.Consumers.{YieldsList-from_first, YieldsList-from_filter, YieldsList-at}
 use Rattle.rules.specs.Views.{plain_side}
-use Rattle.fixpoint.specs.Least.{FoundBy}
-use Rattle.dependencies.proofs.affecting.all_found.Goals.{in-Some+then-o-variable+else-not-found_by, in-Some+else-o-variable, in_default}
-use Rattle.dependencies.proofs.Passing.{all_held, not_held}
+use Rattle.fixpoint.specs.Least.{FoundBy, Held}
+use Rattle.dependencies.specs.Views.{pair}
+use Rattle.dependencies.specs.Occurring.{occurrences_of, rest}
+use Rattle.dependencies.proofs.Listing.{only_positions}
+use Rattle.dependencies.proofs.Looking.{all_decides}
+use Rattle.dependencies.proofs.Passing.{held_each}
 use Rattle.dependencies.proofs.affecting.all_found.Goals as goal
 
-pub returns-then-not-found_by : goal.returns-then-not-found_by
-returns-then-not-found_by c =
-    not_held c.args.side.now c.args.variable c.args.rounds.now c.args.before c.waits.n c.in-Some.o.variable c.in-Some.o.position c.in-Some.ensures
-    c.if-o-variable.true (not_from_Decides c.found_by.result c.found_by.ensures.found c.if-not-found_by.true)
-
 pub returns : goal.returns
-returns c = all_held c.args.side.now c.args.variable c.args.rounds.now c.args.before (λ m u p l. c.waits.invariant m u p (omega arith))
-
-pub waits-preserved : goal.waits-preserved
-waits-preserved c =
-    let P : ℕ → ℕ → Type 0 = λ u p. u ≡ c.args.variable → FoundBy c.args.rounds.now c.args.before p in
+returns c =
+    let v = c.args.variable in
     let atoms = plain_side c.args.side.now in
-    elim c.match-occurrence.branch [
-      | in-Some+then-o-variable+else-not-found_by w ↦ each_next P atoms c.waits.n (Some (w.in-Some.o.variable, w.in-Some.o.position)) w.in-Some.ensures (λ u p t _. subst (FoundBy c.args.rounds.now c.args.before) t.1 (w.found_by.ensures.found.0 w.if-not-found_by.false)) c.waits.invariant
-      | in-Some+else-o-variable w ↦ each_next P atoms c.waits.n (Some (w.in-Some.o.variable, w.in-Some.o.position)) w.in-Some.ensures (λ u p t e. absurd (w.if-o-variable.false (t.0 ∙ e))) c.waits.invariant
-      | in_default w ↦ each_next P atoms c.waits.n None w.in_default.ensures (λ u p t. absurd t) c.waits.invariant
-    ]
+    let rounds = c.args.rounds.now in
+    let before = c.args.before in
+    let found : ℕ × ℕ → Type 0 = λ o. FoundBy rounds before o.1 in
+    let os = filter (λ (o : ℕ × ℕ). eqb o.0 v) (occurrences_of atoms) in
+    subst (λ (ps : List ℕ). Decides c.all.result (Held rounds before ps)) (only_positions atoms v)
+    (held_each rounds before os c.all.result
+    (all_decides found (λ o. found o → ⊥) os (λ o no yes. no yes) c.all.result
+    (cases_from_all c.all.new.self _ _ (λ (o : ℕ × ℕ). FoundBy rounds before o.1) (λ (o : ℕ × ℕ). FoundBy rounds before o.1 → ⊥) c.all.ensures.ran
+    (YieldsList-from_filter _ (λ (o : ℕ × ℕ). eqb o.0 v) (YieldsList-at c.filter.ensures.source (YieldsList-from_first pair rest {s = c.occurrences_in.result} (occurrences_of atoms) c.occurrences_in.ensures)) c.filter.ensures.closure (λ x b q k. search (rules, tests)))
+    (λ o q k. search (rules, tests)) (λ o q k. search (rules, tests)))))

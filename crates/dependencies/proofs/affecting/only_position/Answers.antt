@@ -1,26 +1,36 @@
-use Rattle.std.proofs.Common.{◌+◌, sym, refl, subst}
+use Rattle.std.proofs.Common.{ℕ, eqb, List, None, sym, ◌∙◌, subst, rules}
+use borrow.Author.Tests.{tests}
+use Rattle.std.proofs.lemmas.Iterator.{YieldsList-from_map}
+use Rattle.std.proofs.lemmas.Iterator.Consumers.{YieldsList-from_first, YieldsList-from_filter, YieldsList-at}
 use Rattle.rules.specs.Views.{plain_side}
-use Rattle.theory.specs.Occurrences.{positions_upto}
-use Rattle.dependencies.proofs.Singling.{Lone, lone_past, lone_other, lone_here, not_single}
-use Rattle.dependencies.proofs.affecting.only_position.Goals.{in-Some+then-o-variable+else-is_some, in-Some+else-o-variable, in_default}
+use Rattle.fixpoint.specs.Steps.{Single}
+use Rattle.dependencies.specs.Views.{pair}
+use Rattle.dependencies.specs.Occurring.{occurrences_of, rest}
+use Rattle.dependencies.proofs.Listing.{only, only_positions}
+use Rattle.dependencies.proofs.Singling.{single_none, single_one, single_more}
 use Rattle.dependencies.proofs.affecting.only_position.Goals as goal
 
-pub bodies-init : goal.bodies-init
-unfolding positions_upto
-bodies-init c = refl
-
-pub returns-then-is_some : goal.returns-then-is_some
-returns-then-is_some c =
-    not_single (plain_side c.args.side.now) c.args.variable c.bodies.n c.bodies.only c.in-Some.o.variable c.in-Some.o.position c.bodies-test.true c.in-Some.ensures c.if-o-variable.true
-    c.if-is_some.ensures c.bodies.invariant
-
-pub bodies-preserved : goal.bodies-preserved
-bodies-preserved c =
-    let atoms = plain_side c.args.side.now in
+pub returns-in_err-only : goal.returns-in_err-only
+returns-in_err-only c =
     let v = c.args.variable in
-    let n = c.bodies.n in
-    elim c.match-occurrence.branch [
-      | in-Some+then-o-variable+else-is_some w ↦ subst (Lone (positions_upto atoms v (n + 1))) (sym w.only-is) (lone_here atoms v n c.bodies.only w.in-Some.o.variable w.in-Some.o.position w.in-Some.ensures w.if-o-variable.true w.if-is_some.ensures c.bodies.invariant)
-      | in-Some+else-o-variable w ↦ subst (Lone (positions_upto atoms v (n + 1))) (sym w.only-is) (lone_other atoms v n c.bodies.only w.in-Some.o.variable w.in-Some.o.position w.in-Some.ensures w.if-o-variable.false c.bodies.invariant)
-      | in_default w ↦ subst (Lone (positions_upto atoms v (n + 1))) (sym w.only-is) (lone_past atoms v n c.bodies.only w.in_default.ensures c.bodies.invariant)
-    ]
+    let atoms = plain_side c.args.side.now in
+    rw c.from_residual.ensures
+    (subst (λ (ps : List ℕ). Single ps None) (only_positions atoms v)
+    (single_none c.map-positions.ensures.runs {t = c.next.new.self} (only atoms v (occurrences_of atoms)) c.in_err-only.ensures.steps
+    (YieldsList-from_map _ (λ (o : ℕ × ℕ). o.1) (YieldsList-at c.map-positions.ensures.source (YieldsList-from_filter _ (λ (o : ℕ × ℕ). eqb o.0 v) (YieldsList-at c.filter.ensures.source (YieldsList-from_first pair rest {s = c.occurrences_in.result} (occurrences_of atoms) c.occurrences_in.ensures)) c.filter.ensures.closure (λ x b q k. search (rules, tests)))) c.map-positions.ensures.closure (λ x r q k. search rules))))
+
+pub returns-in-Some : goal.returns-in-Some
+returns-in-Some c =
+    let v = c.args.variable in
+    let atoms = plain_side c.args.side.now in
+    subst (λ (ps : List ℕ). Single ps None) (only_positions atoms v)
+    (single_more c.map-positions.ensures.runs {u = c.next-2.new.self} (only atoms v (occurrences_of atoms)) c.in_ok-only.only c.in-Some.field-0 c.in_ok-only.ensures.steps c.in-Some.ensures.steps
+    (YieldsList-from_map _ (λ (o : ℕ × ℕ). o.1) (YieldsList-at c.map-positions.ensures.source (YieldsList-from_filter _ (λ (o : ℕ × ℕ). eqb o.0 v) (YieldsList-at c.filter.ensures.source (YieldsList-from_first pair rest {s = c.occurrences_in.result} (occurrences_of atoms) c.occurrences_in.ensures)) c.filter.ensures.closure (λ x b q k. search (rules, tests)))) c.map-positions.ensures.closure (λ x r q k. search rules)))
+
+pub returns-in-None : goal.returns-in-None
+returns-in-None c =
+    let v = c.args.variable in
+    let atoms = plain_side c.args.side.now in
+    sym (only_positions atoms v)
+    ∙ single_one c.map-positions.ensures.runs {u = c.next-2.new.self} (only atoms v (occurrences_of atoms)) c.in_ok-only.only c.in_ok-only.ensures.steps c.in-None.ensures.steps
+    (YieldsList-from_map _ (λ (o : ℕ × ℕ). o.1) (YieldsList-at c.map-positions.ensures.source (YieldsList-from_filter _ (λ (o : ℕ × ℕ). eqb o.0 v) (YieldsList-at c.filter.ensures.source (YieldsList-from_first pair rest {s = c.occurrences_in.result} (occurrences_of atoms) c.occurrences_in.ensures)) c.filter.ensures.closure (λ x b q k. search (rules, tests)))) c.map-positions.ensures.closure (λ x r q k. search rules))

@@ -1,18 +1,14 @@
-use Rattle.std.proofs.Common.{◌≡◌, Some, None, ◌∙◌, arith}
-use Rattle.rules.specs.Views.{plain_side}
-use Rattle.theory.proofs.Occurring.{each_next}
-use Rattle.dependencies.proofs.Looking.{is_found, not_found}
-use Rattle.dependencies.proofs.reading.contains.Goals.{in-Some+else-o-variable, in_default}
+use Rattle.std.proofs.Common.{rules}
+use borrow.Author.Tests.{tests}
+use Rattle.std.specs.List.{Contains}
+use Rattle.std.proofs.lemmas.Iterator.{cases_from_any, YieldsList-from_slice}
+use Rattle.rules.specs.declared.rule.Atom.{Atom}
+use Rattle.rules.specs.Views.{variables}
+use Rattle.dependencies.proofs.Looking.{any_decides, in_some}
 use Rattle.dependencies.proofs.reading.contains.Goals as goal
 
-pub returns-then-o-variable : goal.returns-then-o-variable
-returns-then-o-variable c = is_found (plain_side c.args.side.now) c.numbers.n c.args.variable c.in-Some.o.variable c.in-Some.o.position c.in-Some.ensures c.if-o-variable.true
-
-pub numbers-preserved : goal.numbers-preserved
-numbers-preserved c = elim c.match-occurrence.branch [
-  | in-Some+else-o-variable w ↦ each_next (λ u p. u ≡ c.args.variable → ⊥) (plain_side c.args.side.now) c.numbers.n (Some (w.in-Some.o.variable, w.in-Some.o.position)) w.in-Some.ensures (λ u p t e. w.if-o-variable.false (t.0 ∙ e)) c.numbers.invariant
-  | in_default w ↦ each_next (λ u p. u ≡ c.args.variable → ⊥) (plain_side c.args.side.now) c.numbers.n None w.in_default.ensures (λ u p t. absurd t) c.numbers.invariant
-]
-
 pub returns : goal.returns
-returns c = not_found c.args.side.now c.args.variable (λ m u p l. c.numbers.invariant m u p (omega arith))
+returns c =
+    let Has : Atom → Type 0 = λ a. Contains (variables a) c.args.variable in
+    let found = cases_from_any _ _ _ (λ (a : Atom). Contains (variables a) c.args.variable) (λ (a : Atom). Contains (variables a) c.args.variable → ⊥) c.any.ensures.ran (YieldsList-from_slice c.atoms.result.now cc) (λ x q k. search (rules, tests)) (λ x q k. search (rules, tests)) in
+    in_some c.args.side.now c.atoms.result.now c.args.variable c.any.result c.atoms.ensures (any_decides Has (λ a. Has a → ⊥) c.atoms.result.now (λ x no p. no p) c.any.result found)

@@ -1,17 +1,20 @@
-use Rattle.std.proofs.Common.{sym, subst}
+use Rattle.std.proofs.Common.{ℕ, List, sym, subst}
 use Rattle.rules.specs.Views.{plain_rule}
-use Rattle.dependencies.specs.Tables.{Raised, EdgesTo}
-use Rattle.dependencies.proofs.Raising.{raised_next, raised_to, raised_to_none}
-use Rattle.dependencies.proofs.table.add_from.Goals.{in-Some, in_default}
+use Rattle.dependencies.specs.Occurring.{rest}
+use Rattle.dependencies.specs.Tables.{Raised, Among, EdgesTo}
+use Rattle.dependencies.specs.Views.{pair}
+use Rattle.dependencies.proofs.Raising.{raised_first, raised_to}
 use Rattle.dependencies.proofs.table.add_from.Goals as goal
 
-pub heads-preserved : goal.heads-preserved
-heads-preserved c =
+pub loop-to-preserved : goal.loop-to-preserved
+loop-to-preserved c =
     let r = plain_rule c.args.rule.now in
-    let v = c.args.from.variable in
-    let o = c.args.from.position in
-    raised_next (EdgesTo r v o) c.heads.n c.args.table.now c.heads.table c.match-occurrence.table c.heads.invariant
-    (elim c.match-occurrence.branch [
-      | in-Some w ↦ subst (Raised (EdgesTo r v o c.heads.n) c.heads.table) (sym w.table-is) (raised_to r c.heads.n c.heads.table w.raise.new.table v o w.in-Some.to.variable w.in-Some.to.position w.level.result w.in-Some.ensures w.level.ensures w.raise.ensures)
-      | in_default w ↦ subst (Raised (EdgesTo r v o c.heads.n) c.heads.table) (sym w.table-is) (raised_to_none r c.heads.n v o c.heads.table w.in_default.ensures)
-    ])
+    let from = pair c.args.from in
+    let to = pair c.in-Some.to in (
+      tt,
+      tt,
+      λ after left.
+          c.loop-to.invariant.2 after
+          (subst (λ (os : List (ℕ × ℕ)). Raised (Among (EdgesTo r from) os) c.loop-to.table after) (sym c.in-Some.ensures.steps)
+          (raised_first (EdgesTo r from) to (rest c.next.new.self) c.loop-to.table c.raise.new.table after (raised_to r from to c.edge_between.result c.loop-to.table c.raise.new.table c.edge_between.ensures c.raise.ensures) left)),
+    )

@@ -1,15 +1,18 @@
-use Rattle.std.proofs.Common.{sym, subst}
+use Rattle.std.proofs.Common.{ℕ, List, sym, subst}
 use Rattle.rules.specs.Views.{plain_rule}
-use Rattle.dependencies.specs.Tables.{Raised, EdgesAt}
-use Rattle.dependencies.proofs.Raising.{raised_next, raised_from, raised_from_none}
-use Rattle.dependencies.proofs.table.add_rule.Goals.{in-Some, in_default}
+use Rattle.dependencies.specs.Occurring.{rest}
+use Rattle.dependencies.specs.Tables.{Raised, Among, EdgesFrom}
+use Rattle.dependencies.specs.Views.{pair}
+use Rattle.dependencies.proofs.Raising.{raised_first}
 use Rattle.dependencies.proofs.table.add_rule.Goals as goal
 
-pub bodies-preserved : goal.bodies-preserved
-bodies-preserved c =
-    let r = plain_rule c.args.rule.now in
-    raised_next (EdgesAt r) c.bodies.n c.args.table.now c.bodies.table c.match-occurrence.table c.bodies.invariant
-    (elim c.match-occurrence.branch [
-      | in-Some w ↦ subst (Raised (EdgesAt r c.bodies.n) c.bodies.table) (sym w.table-is) (raised_from r c.bodies.n c.bodies.table w.add_from.new.table w.in-Some.from.variable w.in-Some.from.position w.in-Some.ensures w.add_from.ensures)
-      | in_default w ↦ subst (Raised (EdgesAt r c.bodies.n) c.bodies.table) (sym w.table-is) (raised_from_none r c.bodies.n c.bodies.table w.in_default.ensures)
-    ])
+pub loop-from-preserved : goal.loop-from-preserved
+loop-from-preserved c =
+    let r = plain_rule c.args.rule.now in (
+      tt,
+      tt,
+      λ after left.
+          c.loop-from.invariant.2 after
+          (subst (λ (os : List (ℕ × ℕ)). Raised (Among (EdgesFrom r) os) c.loop-from.table after) (sym c.in-Some.ensures.steps)
+          (raised_first (EdgesFrom r) (pair c.in-Some.from) (rest c.next.new.self) c.loop-from.table c.add_from.new.table after c.add_from.ensures left)),
+    )

@@ -1,14 +1,18 @@
-use Rattle.std.proofs.lemmas.Bool.Decides.{not_from_Decides}
-use Rattle.dependencies.proofs.Passing.{some_first, none_first_next, none_first}
+use Rattle.std.proofs.Common.{rules}
+use borrow.Author.Tests.{tests}
+use Rattle.std.proofs.lemmas.Iterator.{cases_from_any, YieldsList-from_slice}
+use Rattle.rules.specs.declared.rule.Rule.{Rule}
+use Rattle.rules.specs.Views.{plain_rule}
+use Rattle.dependencies.specs.Affecting.{FirstIn}
+use Rattle.dependencies.proofs.Looking.{any_decides}
+use Rattle.dependencies.proofs.Passing.{first_of}
 use Rattle.dependencies.proofs.affecting.PositionsSystem.is_first.Goals as goal
 
-pub returns-then-is_first_in : goal.returns-then-is_first_in
-returns-then-is_first_in c _ = some_first c.args.self.now.rules.now c.args.i c.rules.k c.index-self-k.result c.rules-test.true (c.is_first_in.ensures.0 c.if-is_first_in.true)
-
-pub rules-preserved : goal.rules-preserved
-rules-preserved c =
-    none_first_next c.args.self.now.rules.now c.args.i c.rules.k c.index-self-k.result c.rules-test.true
-    (not_from_Decides c.is_first_in.result c.is_first_in.ensures c.if-is_first_in.false) c.rules.invariant
-
 pub returns : goal.returns
-returns c _ = none_first c.args.self.now.rules.now c.args.i c.rules.k c.rules-test.false c.rules.invariant
+returns c _ =
+    let all = c.args.self.now.rules.now in
+    let p = c.args.i in
+    let first : Rule → Type 0 = λ x. FirstIn (plain_rule x) p in
+    first_of all p c.any.result
+    (any_decides first (λ x. first x → ⊥) all (λ x no yes. no yes) c.any.result
+    (cases_from_any _ _ _ (λ (x : Rule). FirstIn (plain_rule x) p) (λ (x : Rule). FirstIn (plain_rule x) p → ⊥) c.any.ensures.ran (YieldsList-from_slice all (search rules)) (λ x q k. search (rules, tests)) (λ x q k. search (rules, tests))))

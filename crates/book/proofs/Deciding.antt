@@ -153,11 +153,11 @@ one_more b line x xs (inl y) (inr (q, p, f)) = inr (q, p, inr (y, f))
 one_more b line x xs (inr (p, n)) _ = inr (question_of x, p, inl (n, refl))
 
 -- the questions on the line stand first
-behind_line : (b : Book) (line : List ℕ) (xs : List lines.Asked) (ys : List Asked) → lines.AllYes forms.Rule line xs → Turns b line ys → Turns b line (map of_line xs ++ ys)
+behind_line : (b : Book) (line : List ℕ) (xs : List lines.Asked) (ys : List Asked) → AllYes (lines.Yes forms.Rule line) xs → Turns b line ys → Turns b line (map of_line xs ++ ys)
 behind_line b line [] ys _ t = t
 behind_line b line (x ∷ xs) ys (y, all) t = one_more b line (of_line x) (map of_line xs ++ ys) (inl y) (behind_line b line xs ys all t)
 
-line_first : (b : Book) (line : List ℕ) (xs : List lines.Asked) (ys : List Asked) (q : Question) (p : ℕ) → lines.FirstNo forms.Rule line xs q p → FirstNo (Yes b line) (No b line) question_of (map of_line xs ++ ys) q p
+line_first : (b : Book) (line : List ℕ) (xs : List lines.Asked) (ys : List Asked) (q : Question) (p : ℕ) → FirstNo (lines.Yes forms.Rule line) (lines.No forms.Rule line) lines.question_of xs q p → FirstNo (Yes b line) (No b line) question_of (map of_line xs ++ ys) q p
 line_first b line [] ys q p f = absurd f
 line_first b line (x ∷ xs) ys q p (inl n) = inl n
 line_first b line (x ∷ xs) ys q p (inr (y, f)) = inr (y, line_first b line xs ys q p f)

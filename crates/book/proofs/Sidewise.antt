@@ -19,31 +19,27 @@ use Rattle.book.proofs.Clashing.{clash_first}
 abbrev pub Goes : List Written → Learning → Learning → Type 0
 Goes ws l m = (known : List Predicate) (before : List Written) → Learnt known before l → Learnt known (before ++ ws) m
 
-module _ (line : List ℕ) (atoms : List Atom) (i : ℕ) (d : Atom) (start l m : Learning) (inside : i < length atoms) (so_far : Goes (map (written line) (take i atoms)) start l) where
-  pub side_more : Goes (written line (get_or atoms i d) ∷ []) l m → Goes (map (written line) (take (i + 1) atoms)) start m
-  side_more next known before t =
-      let w = written line (get_or atoms i d) in
-      let ws = map (written line) (take i atoms) in
-      let e = ap (map (written line)) (take_more atoms i d inside) ∙ map_snoc (written line) (take i atoms) (get_or atoms i d) in
-      subst (λ (xs : List Written). Learnt known xs m) (append_assoc before ws (w ∷ []) ∙ ap (λ (xs : List Written). before ++ xs) (sym e)) (next known (before ++ ws) (so_far known before t))
+module _ (atoms : List Atom) (i : ℕ) (a : Atom) (is : a ≡ get_or atoms i a) (inside : i < length atoms) where
+  here : At (map written atoms) i (written a)
+  here = subst (λ (k : Atom). At (map written atoms) i (written k)) (sym is) (at_map_get written atoms i a inside)
 
-  pub side_stuck : (e : Refusal) → AtomLearned (written line (get_or atoms i d)) l m (Err e) → SideLearned (map (written line) atoms) start m (Err e)
-  side_stuck e (clash, q, p) =
-      let w = written line (get_or atoms i d) in (
-        i,
-        w,
-        at_map_get (written line) atoms i d inside,
-        (λ known before t. subst (λ (xs : List Written). Clash known (before ++ xs) w) (sym (take_map (written line) atoms i)) (clash known (before ++ map (written line) (take i atoms)) (so_far known before t))),
-        q,
-        p,
-      )
+  -- the words of the atoms are short
+  pub short_at : AllShort (map written atoms) → Short (written a)
+  short_at short = short i (written a) here
 
--- the words of the atoms are short
-pub short_at : (line : List ℕ) (atoms whole : List Atom) (i : ℕ) (d : Atom) → atoms ≡ whole → i < length atoms → AllShort (map (written line) whole) → Short (written line (get_or atoms i d))
-short_at line atoms whole i d e l short = short i (written line (get_or atoms i d)) (subst (λ (k : List Atom). At (map (written line) k) i (written line (get_or atoms i d))) e (at_map_get (written line) atoms i d l))
+  module _ (start l m : Learning) (so_far : Goes (map written (take i atoms)) start l) where
+    pub side_more : Goes (written a ∷ []) l m → Goes (map written (take (i + 1) atoms)) start m
+    side_more next known before t =
+        let ws = map written (take i atoms) in
+        let e = ap (map written) (take_more atoms i a inside) ∙ map_snoc written (take i atoms) (get_or atoms i a) ∙ ap (λ (k : Atom). ws ++ (written k ∷ [])) (sym is) in
+        subst (λ (xs : List Written). Learnt known xs m) (append_assoc before ws (written a ∷ []) ∙ ap (λ (xs : List Written). before ++ xs) (sym e)) (next known (before ++ ws) (so_far known before t))
 
-pub side_all : (line : List ℕ) (atoms : List Atom) (i : ℕ) (start l : Learning) → length atoms ≤ i → Goes (map (written line) (take i atoms)) start l → Goes (map (written line) atoms) start l
-side_all line atoms i start l h so_far = subst (λ (xs : List Atom). Goes (map (written line) xs) start l) (take_all i atoms h) so_far
+    pub side_stuck : (e : Refusal) → AtomLearned (written a) l m (Err e) → SideLearned (map written atoms) start m (Err e)
+    side_stuck e (clash, q, p) =
+        (i, written a, here, (λ known before t. subst (λ (xs : List Written). Clash known (before ++ xs) (written a)) (sym (take_map written atoms i)) (clash known (before ++ map written (take i atoms)) (so_far known before t))), q, p)
+
+pub side_all : (atoms : List Atom) (i : ℕ) (start l : Learning) → length atoms ≤ i → Goes (map written (take i atoms)) start l → Goes (map written atoms) start l
+side_all atoms i start l h so_far = subst (λ (xs : List Atom). Goes (map written xs) start l) (take_all i atoms h) so_far
 
 -- nothing of the line is learned yet
 pub learnt_none : (l : Learning) → l.extra ≡ None → Distinct (predicates_of l.known) → length (predicates_of l.known) ≤ 32 → Learnt (predicates_of l.known) [] l

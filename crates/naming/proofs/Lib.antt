@@ -1,3 +1,4 @@
+pub mod Ends
+pub mod Finding
 pub mod Naming
 pub mod Sides
-pub mod Words

@@ -1,8 +1,8 @@
 -- What the predicates and variables that are kept spell, and what the calls on them do.
-use Rattle.std.specs.Prelude.{◌≡◌, ℕ, ◌≤◌, Bool, true, false, List, [], ◌∷◌, ◌++◌, map, length, take, Some, None, Option, ◌≢◌}
+use Rattle.std.specs.Prelude.{◌≡◌, ℕ, ◌≤◌, List, [], ◌∷◌, ◌++◌, map, length, Some, None, Ok, Err, Option, Result, ◌≢◌}
+use Rattle.bounded.specs.declared.Full.{Full}
 use Rattle.lists.specs.Places.{At, Holds, First, FirstAt}
-use Rattle.patterns.specs.Tables.{word_at}
-use Rattle.patterns.specs.declared.atom.Span.{Span}
+use Rattle.lists.specs.Joins.{Joined}
 use Rattle.rules.specs.Names.{text_of}
 use Rattle.naming.specs.Meaning as plain
 use Rattle.naming.specs.declared.predicate.Predicate.{Predicate}
@@ -13,7 +13,7 @@ abbrev pub plain_predicate : Predicate → plain.Predicate
 plain_predicate p = record { name = text_of p.name; columns = p.columns }
 
 abbrev pub predicates_of : Predicates → List plain.Predicate
-predicates_of t = map plain_predicate (take t.count t.table)
+predicates_of t = map plain_predicate t.list.items
 
 -- the predicate of this number; or there is none
 abbrev pub Gets : List plain.Predicate → ℕ → Option Predicate → Type 0
@@ -26,18 +26,20 @@ Finds known name None = (i : ℕ) (p : plain.Predicate) → At known i p → p.n
 Finds known name (Some i) = (p : plain.Predicate) × First (λ x. x.name ≡ name) known i p
 
 -- one predicate more; or, if there were 40, none
-abbrev pub Grows : Predicates → Predicate → Predicates → Bool → Type 0
-Grows t p u true = predicates_of u ≡ predicates_of t ++ (plain_predicate p ∷ [])
-Grows t p u false = (u ≡ t) × (40 ≤ t.count)
+abbrev pub Grows : Predicates → Predicate → Predicates → Result (Unit {0}) Full → Type 0
+Grows t p u (Ok x) = predicates_of u ≡ predicates_of t ++ (plain_predicate p ∷ [])
+Grows t p u (Err e) = (u ≡ t) × (40 ≤ length (predicates_of t))
 
--- the text of a word of the line, and the texts of the variables that are numbered
-abbrev pub text_at : List ℕ → Span → List ℕ
-text_at line w = (word_at line w).text
-
-abbrev pub names_of : List ℕ → Variables → List (List ℕ)
-names_of line v = map (text_at line) (take v.count v.table)
+-- the texts of the variables that are numbered
+abbrev pub names_of : Variables → List (List ℕ)
+names_of v = map (λ t. t.now) v.texts.items
 
 -- the number of the first name that is this text; or there is none
 abbrev pub FindsWord : List (List ℕ) → List ℕ → Option ℕ → Type 0
 FindsWord names text None = Holds names text → ⊥
 FindsWord names text (Some i) = FirstAt names i text
+
+-- the text has this number among the names, to which it is joined; or there were 32
+abbrev pub Numbered : List (List ℕ) → List ℕ → List (List ℕ) → Result ℕ Full → Type 0
+Numbered before text after (Ok n) = Joined before (text ∷ []) after × FirstAt after n text
+Numbered before text after (Err e) = 32 ≤ length before

@@ -36,13 +36,15 @@ pub record WordsNumbered (words : List Token) (before after : List (List ℕ)) (
   pub pairs : Pairwise (λ t v. FirstAt after v t.text) words numbers
   pub joined : Joined before (map (λ t. t.text) words) after
 
+-- an atom of at most four words is numbered; or it cannot be, or there were more than 28 names
 abbrev pub AtomNumbered : List Predicate → Written → List (List ℕ) → List (List ℕ) → Option Atom → Type 0
-AtomNumbered known w before after None = Numberable known → Nameable known w → ⊥
-AtomNumbered known w before after (Some a) = AtomMeans known after w (plain_atom a) × Joined before (map (λ t. t.text) w.words) after
+AtomNumbered known w before after None = Numberable known → Nameable known w → 28 < length before
+AtomNumbered known w before after (Some a) = AtomMeans known after w (plain_atom a) × Joined before (map (λ t. t.text) w.words) after × (length w.words ≤ 4)
 
+-- a side of at most 16 words is numbered; or it cannot be, or there were more than 16 names
 abbrev pub SideNumbered : List Predicate → List Written → List (List ℕ) → List (List ℕ) → Option Side → Type 0
-SideNumbered known atoms before after None = Numberable known → AllNameable known atoms → ⊥
-SideNumbered known atoms before after (Some d) = Pairwise (AtomMeans known after) atoms (plain_side d) × Joined before (words_of atoms) after
+SideNumbered known atoms before after None = Numberable known → AllNameable known atoms → 16 < length before
+SideNumbered known atoms before after (Some d) = Pairwise (AtomMeans known after) atoms (plain_side d) × Joined before (words_of atoms) after × (length (words_of atoms) ≤ 16)
 
 -- the rule that the sides mean, under the label's first eight bytes; there is one whenever each atom can be numbered
 abbrev pub RuleNumbered : List Predicate → List ℕ → List Written → List Written → Option Rule → Type 0

@@ -1,83 +1,78 @@
 // The rule that the two sides of a rule line mean: predicates by their numbers in a book, variables by first occurrence.
-ghost use Rattle.std.specs.Prelude.{◌+◌, ◌≤◌, map, length, take};
-ghost use Rattle.patterns.specs.Tables.{word_at, written, side_of};
-ghost use Rattle.naming.specs.Names.{predicates_of, names_of, text_at};
+ghost use Rattle.std.specs.Prelude.{◌<◌, ◌≤◌, map, length, MatchResult};
+ghost use Rattle.patterns.specs.Tables.{word_of, written, side_of};
+ghost use Rattle.naming.specs.Names.{predicates_of, names_of};
 ghost use Rattle.naming.specs.Numbering.{PredicateNumber, WordsNumbered, AtomNumbered, SideNumbered, RuleNumbered};
 
 use crate::predicate::Predicates;
 use crate::variable::Variables;
-use patterns::atom::{Atom as WrittenAtom, Side as WrittenSide, Span};
+use bounded::{Bounded, Full};
+use patterns::atom::{Atom as WrittenAtom, Side as WrittenSide};
 use reading::line::RuleLine;
 use rules::name::Name;
 use rules::rule::{Atom, Rule, Side};
+use tokens::token::Word;
 
-fn predicate_number(line: &[u8], atom: &WrittenAtom, known: &Predicates) -> Option<usize>
-    ensures { PredicateNumber (predicates_of known.now) (written line.now atom.now) result }
+// The most atoms of a side, and the most variables of an atom.
+const MOST: usize = 4;
+
+fn predicate_number(atom: &WrittenAtom, known: &Predicates) -> Option<usize>
+    ensures { PredicateNumber (predicates_of known.now) (written atom.now) result }
 {
-    let number = known.find(atom.predicate().text(line))?;
+    let number = known.find(atom.predicate().text)?;
     let predicate = known.get(number)?;
-    if predicate.columns != atom.words().len() {
-        return None;
-    }
-    Some(number)
+    (predicate.columns == atom.words().len()).then_some(number)
 }
 
 // The variables that the words of an atom name.
-fn number_words(line: &[u8], words: &[Span], variables: &mut Variables) -> [u8; 4]
-    requires few { length words.now ≤ 4 }
-    requires room { variables.old.count + 4 ≤ 32 }
-    ensures numbered { WordsNumbered (map (word_at line.now) words.now) (names_of line.now variables.old) (names_of line.now variables.new) (take (length words.now) result) }
-    ensures count { variables.new.count ≤ variables.old.count + 4 }
+fn number_words<'a>(
+    words: &[Word<'a>],
+    variables: &mut Variables<'a>,
+) -> Result<Bounded<u8, MOST>, Full>
+    ensures { MatchResult result (λ n. WordsNumbered (map word_of words.now) (names_of variables.old) (names_of variables.new) n.items) (λ _. length words.now ≤ 4 → 28 < length (names_of variables.old)) }
 {
-    let mut numbers = [0u8; 4];
-    'words: for i in 0..words.len() {
-        numbers[i] = variables.number(line, words[i]) as u8;
+    let mut numbers = Bounded::new(0);
+    for word in words {
+        numbers.push(variables.number(word.text)?)?;
     }
-    numbers
+    Ok(numbers)
 }
 
-fn number_atom(
-    line: &[u8],
-    atom: &WrittenAtom,
+fn number_atom<'a>(
+    atom: &WrittenAtom<'a>,
     known: &Predicates,
-    variables: &mut Variables,
+    variables: &mut Variables<'a>,
 ) -> Option<Atom>
-    requires { variables.old.count + 4 ≤ 32 }
-    ensures numbered { AtomNumbered (predicates_of known.now) (written line.now atom.now) (names_of line.now variables.old) (names_of line.now variables.new) result }
-    ensures count { variables.new.count ≤ variables.old.count + 4 }
+    ensures { AtomNumbered (predicates_of known.now) (written atom.now) (names_of variables.old) (names_of variables.new) result }
 {
-    let predicate = predicate_number(line, atom, known)?;
-    let words = atom.words();
-    let numbers = number_words(line, words, variables);
-    Atom::new(predicate as u8, &numbers[0..words.len()])
+    let predicate = predicate_number(atom, known)?;
+    let numbers = number_words(atom.words(), variables).ok()?;
+    Atom::new(predicate as u8, numbers.as_slice())
 }
 
-fn number_side(
-    line: &[u8],
-    side: &WrittenSide,
+fn number_side<'a>(
+    side: &WrittenSide<'a>,
     known: &Predicates,
-    variables: &mut Variables,
+    variables: &mut Variables<'a>,
 ) -> Option<Side>
-    requires { variables.old.count + 16 ≤ 32 }
-    ensures numbered { SideNumbered (predicates_of known.now) (side_of line.now side.now) (names_of line.now variables.old) (names_of line.now variables.new) result }
-    ensures count { variables.new.count ≤ variables.old.count + 16 }
+    ensures { SideNumbered (predicates_of known.now) (side_of side.now) (names_of variables.old) (names_of variables.new) result }
 {
+    // An atom that is there already fills the unused places: to take the first of the side would need a case of its own.
     let filler = Atom::new(0, &[0])?;
-    let mut made = [filler; 4];
-    let atoms = side.atoms();
-    'atoms: for i in 0..atoms.len() {
-        made[i] = number_atom(line, &atoms[i], known, variables)?;
+    let mut atoms = Bounded::<Atom, MOST>::new(filler);
+    for atom in side.atoms() {
+        atoms.push(number_atom(atom, known, variables)?).ok()?;
     }
-    Side::new(&made[0..atoms.len()])
+    Side::new(atoms.as_slice())
 }
 
 // The rule that the line means among these predicates. There is one whenever each side has an atom, each atom a word, and each predicate is known with its columns.
 pub fn number_rule(rule: &RuleLine, known: &Predicates) -> Option<Rule>
-    ensures { RuleNumbered (predicates_of known.now) (text_at rule.now.line.now rule.now.label) (side_of rule.now.line.now rule.now.body) (side_of rule.now.line.now rule.now.head) result }
+    ensures { RuleNumbered (predicates_of known.now) rule.now.label.text.now (side_of rule.now.body) (side_of rule.now.head) result }
 {
-    let mut variables = Variables::new(rule.label);
-    let body = number_side(rule.line, &rule.body, known, &mut variables)?;
-    let head = number_side(rule.line, &rule.head, known, &mut variables)?;
-    let label = Name::new(rule.label.text(rule.line));
+    let mut variables = Variables::new();
+    let body = number_side(&rule.body, known, &mut variables)?;
+    let head = number_side(&rule.head, known, &mut variables)?;
+    let label = Name::new(rule.label.text);
     Some(Rule { label, body, head })
 }

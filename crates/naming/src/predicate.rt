@@ -1,6 +1,7 @@
 // The predicates of a book, by number.
-ghost use Rattle.std.specs.Prelude.{◌≡◌, ◌≤◌, length};
+ghost use Rattle.std.specs.Prelude.{◌≤◌, length};
 
+use bounded::Bounded;
 use rules::name::Name;
 
 mod methods;
@@ -14,11 +15,8 @@ pub struct Predicate {
     pub columns: usize,
 }
 
-// Of the table, the first `count`.
 #[derive(Clone, Copy)]
 pub struct Predicates {
-    table: [Predicate; MOST],
-    count: usize,
-    ghost few: { count ≤ 40 },
-    ghost wide: { length table ≡ 40 },
+    list: Bounded<Predicate, MOST>,
+    ghost few: { length list.items ≤ 40 },
 }

@@ -1,18 +1,15 @@
 // The variables of a rule line, by number: each by the word where it first occurs.
-ghost use Rattle.std.specs.Prelude.{◌≡◌, ◌≤◌, length};
+ghost use Rattle.std.specs.Prelude.{◌≤◌, length};
 
-use patterns::atom::Span;
+use bounded::Bounded;
 
 mod methods;
 
 // Two sides of four atoms with four words each.
 const MOST: usize = 32;
 
-// Of the table, the first `count`.
-#[derive(Clone, Copy)]
-pub struct Variables {
-    table: [Span; MOST],
-    count: usize,
-    ghost few: { count ≤ 32 },
-    ghost wide: { length table ≡ 32 },
+#[derive(Drop)]
+pub struct Variables<'a> {
+    texts: Bounded<&'a [u8], MOST>,
+    ghost few: { length texts.items ≤ 32 },
 }

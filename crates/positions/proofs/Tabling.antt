@@ -1,6 +1,5 @@
 -- The edges of rules and the steps of their table lie within each other, so infinite positions and ranks are the same.
-use Rattle.std.proofs.Common.{◌≡◌, ℕ, ◌/◌, ◌<◌, ◌⊎◌, List, [], ◌∷◌, map, refl, ap, ◌∙◌, inl, inr, ⊎_elim, arith}
-use Rattle.std.proofs.lemmas.Bool.{cases_eq}
+use Rattle.std.proofs.Common.{◌≡◌, ℕ, ◌/◌, ◌<◌, ◌⊎◌, List, [], ◌∷◌, map, Some, None, Option, refl, ap, ◌∙◌, inl, inr, ⊎_elim, arith}
 use Rattle.lists.proofs.Numbered.{at_below}
 use Rattle.graphs.specs.declared.step.Step.{Step}
 use Rattle.graphs.specs.Laws.{Within}
@@ -12,6 +11,8 @@ use Rattle.rules.specs.declared.rule.Rule.{Rule}
 use Rattle.dependencies.specs.Tables.{SomeRule, Tabulated}
 use Rattle.ranks.specs.Answers.{Ranked}
 use Rattle.ranks.specs.Tables.{entry, TableStep}
+use Rattle.ranks.specs.declared.edge.Edge.{Edge}
+use Rattle.ranks.specs.declared.edge.Edge.TheVariants.{Normal, Special}
 use Rattle.ranks.specs.declared.rank.Rank.{Rank}
 use Rattle.ranks.specs.declared.rank.Rank.TheVariants.{Number, Infinite}
 use Rattle.book.specs.Book as book
@@ -23,7 +24,12 @@ use Rattle.positions.specs.Positions.{KnownPosition}
 abbrev step : ℕ → ℕ → ℕ → ℕ → Step
 step kind rule from to = record { kind = kind; rule = rule; from = from; to = to }
 
-module _ (rules : List plain.Rule) (table : List ℕ) (t : Tabulated rules table) where
+special_or_not : (e : Option Edge) → (e ≡ Some Special) ⊎ (e ≡ Some Special → ⊥)
+special_or_not None = inr (λ e. absurd (cc))
+special_or_not (Some Normal) = inr (λ e. absurd (cc))
+special_or_not (Some Special) = inl refl
+
+module _ (rules : List plain.Rule) (table : List (Option Edge)) (t : Tabulated rules table) where
   special_step : (p q : ℕ) → SomeRule SpecialEdge rules p q → TableStep table (step 5 0 p q)
   special_step p q some =
       let (l, m) = t.special_within p q some in
@@ -39,12 +45,12 @@ module _ (rules : List plain.Rule) (table : List ℕ) (t : Tabulated rules table
       ⊎_elim
       (λ two. (step 5 0 p q, record { from = l; to = m; edge = inr (refl, two); rule = refl }, refl, refl, λ _. refl))
       (λ other. (step 4 0 p q, record { from = l; to = m; edge = inl (refl, (t.normal p q l m).1 ((λ special. other ((t.special p q l m).1 special)), some)); rule = refl }, refl, refl, λ five. absurd (omega arith)))
-      (cases_eq (entry table p q) 2)
+      (special_or_not (entry table p q))
 
   within_rules : Within (TableStep table) (PositionStep rules)
   within_rules s w = cases w.edge
     where
-      cases : ((s.kind ≡ 4) × (entry table s.from s.to ≡ 1)) ⊎ ((s.kind ≡ 5) × (entry table s.from s.to ≡ 2)) → (u : Step) × PositionStep rules u × (u.from ≡ s.from) × (u.to ≡ s.to) × (s.kind ≡ 5 → u.kind ≡ 5)
+      cases : ((s.kind ≡ 4) × (entry table s.from s.to ≡ Some Normal)) ⊎ ((s.kind ≡ 5) × (entry table s.from s.to ≡ Some Special)) → (u : Step) × PositionStep rules u × (u.from ≡ s.from) × (u.to ≡ s.to) × (s.kind ≡ 5 → u.kind ≡ 5)
       cases (inl (kind, one)) =
           let (_, (i, r, at, edge)) = (t.normal s.from s.to w.from w.to).0 one in
           (step 4 i s.from s.to, inl (refl, r, at, edge), refl, refl, λ five. absurd (omega arith))

@@ -2,7 +2,6 @@
 #![tactic(auto)]
 
 ghost use Rattle.std.specs.Prelude.{Decides};
-ghost use Rattle.book.specs.Books.{plain_book};
 ghost use Rattle.positions.specs.Positions.{KnownPosition, RankTold};
 
 use book::book::Book;
@@ -16,23 +15,18 @@ const COLUMNS: usize = 4;
 
 // Whether the position is a column of a known predicate.
 fn is_known(book: &Book, position: usize) -> bool
-    ensures { Decides result (KnownPosition (plain_book book.now) position) }
+    ensures { Decides result (KnownPosition book.now position) }
 {
-    match book.predicate(position / COLUMNS) {
-        Some(predicate) => position % COLUMNS < predicate.columns,
-        None => false,
-    }
+    book.predicate(position / COLUMNS)
+        .is_some_and(|predicate| position % COLUMNS < predicate.columns)
 }
 
 // The rank of a known position, or that it is infinite. A position that is not known is refused.
 pub fn rank(book: &Book, position: usize) -> Result<Rank, Refusal>
-    ensures { RankTold (plain_book book.now) position result }
+    ensures { RankTold book.now position result }
 {
     if !is_known(book, position) {
-        return Err(Refusal {
-            question: Question::Known,
-            place: 0,
-        });
+        return Err(Question::Known.at(0));
     }
     let table = edges(book.rules());
     let told = ranks(&table);

@@ -1,12 +1,7 @@
 // Adding a rule line: its questions in their order, and what it would make of the book.
-ghost use Rattle.std.specs.Prelude.{length};
-ghost use Rattle.patterns.specs.Patterns.{Writes};
-ghost use Rattle.patterns.specs.Asking.{Passes};
-ghost use Rattle.patterns.specs.declared.state.Form.TheVariants as forms;
-ghost use Rattle.reading.specs.Lines.{rule_of};
 ghost use Rattle.book.specs.Changing.{Added};
 ghost use Rattle.book.specs.Law.{Determined, Decided};
-ghost use Rattle.book.specs.Books.{plain_book, LabelAsked, Prepared};
+ghost use Rattle.book.specs.Books.{LabelAsked, Prepared};
 
 use super::{Book, RULES};
 use crate::learning::Learning;
@@ -19,53 +14,40 @@ use rules::rule::Rule;
 
 impl Book {
     fn check_label(&self, rule: &RuleLine) -> Result<(), Refusal>
-        ensures { LabelAsked (plain_book self.now) rule.now result }
+        ensures { LabelAsked self.now rule.now result }
     {
-        if self.find(rule.label.text(rule.line)).is_some() {
-            return Err(Refusal {
-                question: Question::LabelUnused,
-                place: rule.label.place,
-            });
+        if self.find(rule.label.text).is_some() {
+            return Err(Question::LabelUnused.at(rule.label.place));
         }
         Ok(())
     }
 
-    // The rule by number, and the predicates that would be known. The book is left as it is, so that a refusal alters nothing.
-    fn prepare(&self, rule: &RuleLine) -> Result<(Rule, Predicates), Refusal>
-        requires passes { Passes forms.Rule rule.now.line.now }
-        requires writes { Writes forms.Rule rule.now.line.now (rule_of rule.now) }
-        ensures { Prepared (plain_book self.now) rule.now.line.now result }
+    // The line's rule by number, and the predicates that would be known. The book is left as it is, so that a refusal alters nothing.
+    fn prepare(&self, line: &[u8]) -> Result<(Rule, Predicates), Refusal>
+        ensures { Prepared self.now line.now result }
     {
-        self.check_label(rule)?;
-        let learning = Learning::learn(&self.known, rule)?;
+        let written = read_rule(line)?;
+        self.check_label(&written)?;
+        let learning = Learning::learn(&self.known, &written)?;
         if let Some(place) = learning.extra {
-            return Err(Refusal {
-                question: Question::Predicates,
-                place,
-            });
+            return Err(Question::Predicates.at(place));
         }
         if self.rules.len() >= RULES {
-            return Err(Refusal {
-                question: Question::Rules,
-                place: 0,
-            });
+            return Err(Question::Rules.at(0));
         }
-        match number_rule(rule, &learning.known) {
-            Some(numbered) => Ok((numbered, learning.known)),
-            None => unreachable(),
-        }
+        let rule = number_rule(&written, &learning.known).unwrap();
+        Ok((rule, learning.known))
     }
 
     // The line's rule stands last and its predicates become known; or the first question that answers no turns it away, and nothing changes.
     pub fn add(&mut self, line: &[u8]) -> Result<(), Refusal>
-        ensures added { Added (plain_book self.old) line.now (plain_book self.new) result }
-        ensures determined { Determined (plain_book self.old) }
-        ensures decided { Decided (plain_book self.old) line.now }
+        ensures added { Added self.old line.now self.new result }
+        ensures determined { Determined self.old }
+        ensures decided { Decided self.old line.now }
     {
-        let rule = read_rule(line)?;
-        let (numbered, known) = self.prepare(&rule)?;
+        let (rule, known) = self.prepare(line)?;
         self.known = known;
-        self.rules.push_reserved(numbered);
+        self.rules.push_reserved(rule);
         Ok(())
     }
 }

@@ -1,11 +1,10 @@
 // A new book, reading it, and withdrawing a rule.
 ghost use Rattle.std.specs.Prelude.{◌≡◌, ◌+◌, ◌<◌, ◌++◌, map, length, take, drop, IfOk, vec_len, vec_capacity};
 ghost use Rattle.naming.specs.Names.{Gets};
-ghost use Rattle.book.specs.Book.{empty};
+ghost use Rattle.book.specs.Book.{empty, Sound};
 ghost use Rattle.book.specs.Changing.{Withdrawn};
 ghost use Rattle.book.specs.Law.{Determined};
 ghost use Rattle.book.specs.Views.{plain_entry, FindsLabel};
-ghost use Rattle.book.specs.Books.{plain_book};
 
 use super::{Book, RULES};
 use naming::predicate::{Predicate, Predicates};
@@ -13,19 +12,10 @@ use questions::question::{Question, Refusal};
 use rules::rule::Rule;
 use std::alloc::{AllocError, Global};
 
-// Removes the rule of this number; later ones move down.
-fn take_out(rules: &mut Vec<Rule>, number: usize)
-    requires { number < vec_len rules.old }
-    ensures items { rules.new.items ≡ take number rules.old.items ++ drop (number + 1) rules.old.items }
-    ensures capacity { vec_capacity rules.new ≡ vec_capacity rules.old }
-{
-    rules.remove(number);
-}
-
 impl Book {
     // No rule stands and no predicate is known.
     pub fn new(heap: Global) -> Result<Book, AllocError>
-        ensures { IfOk result (λ b. plain_book b ≡ empty) }
+        ensures { IfOk result (λ b. b ≡ empty) }
     {
         let rules = Vec::with_capacity(heap, RULES)?;
         Ok(Book {
@@ -36,53 +26,40 @@ impl Book {
 
     // The standing rules, in the order of adding.
     pub fn rules(&self) -> &[Rule]
-        ensures { map plain_entry result.now ≡ (plain_book self.now).entries }
+        ensures entries { map plain_entry result.now ≡ self.now.entries }
+        ensures sound { ∥ Sound self.now ∥₁ }
     {
         self.rules.as_slice()
     }
 
     // How many predicates are known.
     pub fn predicates(&self) -> usize
-        ensures { result ≡ length (plain_book self.now).known }
+        ensures { result ≡ length self.now.known }
     {
         self.known.len()
     }
 
     // The known predicate of this number.
     pub fn predicate(&self, number: usize) -> Option<Predicate>
-        ensures { Gets (plain_book self.now).known number result }
+        ensures { Gets self.now.known number result }
     {
         self.known.get(number)
     }
 
     // The number of the standing rule that carries the label.
     pub fn find(&self, label: &[u8]) -> Option<usize>
-        ensures { FindsLabel (plain_book self.now) label.now result }
+        ensures { FindsLabel self.now label.now result }
     {
-        let rules = self.rules();
-        'search: for i in 0..rules.len() {
-            let rule = rules[i];
-            if rule.label.is(label) {
-                return Some(i);
-            }
-        }
-        None
+        self.rules().iter().position(|rule| rule.label.is(label))
     }
 
     // The label's rule no longer stands and later ones move down; what is known stays known. Refused if no standing rule carries the label.
     pub fn withdraw(&mut self, label: &[u8]) -> Result<(), Refusal>
-        ensures withdrawn { Withdrawn (plain_book self.old) label.now (plain_book self.new) result }
-        ensures determined { Determined (plain_book self.old) }
+        ensures withdrawn { Withdrawn self.old label.now self.new result }
+        ensures determined { Determined self.old }
     {
-        match self.find(label) {
-            Some(number) => {
-                take_out(&mut self.rules, number);
-                Ok(())
-            }
-            None => Err(Refusal {
-                question: Question::LabelStands,
-                place: 0,
-            }),
-        }
+        let number = self.find(label).ok_or(Question::LabelStands.at(0))?;
+        self.rules.remove(number);
+        Ok(())
     }
 }

@@ -1,8 +1,9 @@
 // Finding a predicate by its name, and one predicate more.
-ghost use Rattle.std.specs.Prelude.{◌≡◌, ◌+◌, ◌≤◌, [], length};
+ghost use Rattle.std.specs.Prelude.{◌≡◌, [], length};
 ghost use Rattle.naming.specs.Names.{predicates_of, Gets, Finds, Grows};
 
-use super::{MOST, Predicate, Predicates};
+use super::{Predicate, Predicates};
+use bounded::{Bounded, Full};
 use rules::name::Name;
 
 impl Predicates {
@@ -14,51 +15,37 @@ impl Predicates {
             columns: 0,
         };
         Predicates {
-            table: [filler; MOST],
-            count: 0,
+            list: Bounded::new(filler),
         }
     }
 
     pub fn len(&self) -> usize
         ensures { result ≡ length (predicates_of self.now) }
     {
-        return self.count;
+        self.list.len()
     }
 
     // The predicate of this number.
     pub fn get(&self, number: usize) -> Option<Predicate>
         ensures { Gets (predicates_of self.now) number result }
     {
-        if number >= self.count {
-            return None;
-        }
-        Some(self.table[number])
+        self.list.as_slice().get(number).copied()
     }
 
     // The number of the predicate of this name.
     pub fn find(&self, name: &[u8]) -> Option<usize>
         ensures { Finds (predicates_of self.now) name.now result }
     {
-        'search: for i in 0..self.count {
-            let predicate = self.table[i];
-            if predicate.name.is(name) {
-                return Some(i);
-            }
-        }
-        None
+        self.list
+            .as_slice()
+            .iter()
+            .position(|predicate| predicate.name.is(name))
     }
 
-    // One predicate more, unless the table is full.
-    pub fn push(&mut self, predicate: Predicate) -> bool
-        ensures grows { Grows self.old predicate self.new result }
-        ensures count { self.new.count ≤ self.old.count + 1 }
+    // One predicate more, unless there are 40.
+    pub fn push(&mut self, predicate: Predicate) -> Result<(), Full>
+        ensures { Grows self.old predicate self.new result }
     {
-        let n = self.count;
-        if n >= MOST {
-            return false;
-        }
-        self.table[n] = predicate;
-        self.count = n + 1;
-        true
+        self.list.push(predicate)
     }
 }

@@ -1,49 +1,38 @@
 // Numbering words by first occurrence.
-ghost use Rattle.std.specs.Prelude.{◌≡◌, ◌+◌, ◌<◌, ◌≤◌, [], ◌∷◌};
-ghost use Rattle.lists.specs.Places.{FirstAt};
-ghost use Rattle.lists.specs.Joins.{Joined};
-ghost use Rattle.naming.specs.Names.{names_of, text_at, FindsWord};
+ghost use Rattle.std.specs.Prelude.{◌≡◌, []};
+ghost use Rattle.naming.specs.Names.{names_of, FindsWord, Numbered};
 
-use super::{MOST, Variables};
-use patterns::atom::Span;
+use super::Variables;
+use bounded::{Bounded, Full};
 
-impl Variables {
-    // No variable yet; the word only fills the table.
-    pub fn new(filler: Span) -> Variables
-        ensures { result.count ≡ 0 }
+impl<'a> Variables<'a> {
+    pub fn new() -> Variables<'a>
+        ensures { names_of result ≡ [] }
     {
         Variables {
-            table: [filler; MOST],
-            count: 0,
+            texts: Bounded::new(&[]),
         }
     }
 
-    // The number of the variable that this word of the line names.
-    fn find(&self, line: &[u8], word: Span) -> Option<usize>
-        ensures { FindsWord (names_of line.now self.now) (text_at line.now word) result }
+    // The number of the variable of this text.
+    fn find(&self, text: &[u8]) -> Option<usize>
+        ensures { FindsWord (names_of self.now) text.now result }
     {
-        'search: for i in 0..self.count {
-            if self.table[i].text(line) == word.text(line) {
-                return Some(i);
-            }
-        }
-        None
+        self.texts
+            .as_slice()
+            .iter()
+            .position(|known| *known == text)
     }
 
-    // The number of the variable that this word of the line names, which is a new one if it was not named before.
-    pub fn number(&mut self, line: &[u8], word: Span) -> usize
-        requires { self.old.count < 32 }
-        ensures joined { Joined (names_of line.now self.old) (text_at line.now word ∷ []) (names_of line.now self.new) }
-        ensures number { FirstAt (names_of line.now self.new) result (text_at line.now word) }
-        ensures count { self.new.count ≤ self.old.count + 1 }
-        ensures small { result < 32 }
+    // The number of the variable of this text, which is a new one if there was none; or there are 32 others.
+    pub fn number(&mut self, text: &'a [u8]) -> Result<u8, Full>
+        ensures { Numbered (names_of self.old) text.now (names_of self.new) result }
     {
-        if let Some(i) = self.find(line, word) {
-            return i;
+        if let Some(number) = self.find(text) {
+            return Ok(number as u8);
         }
-        let n = self.count;
-        self.table[n] = word;
-        self.count = n + 1;
-        n
+        let number = self.texts.len();
+        self.texts.push(text)?;
+        Ok(number as u8)
     }
 }

@@ -1,34 +1,38 @@
-use Rattle.std.proofs.Common.{ℕ, ◌≤◌, vec_items, sym, refl, subst, arith}
+use Rattle.std.proofs.Common.{◌≤◌, ℕ, Option, vec_items, sym, subst, arith}
 use Rattle.std.proofs.Math.ListN.{length-map}
 use Rattle.lists.proofs.Numbered.{at_below}
-use Rattle.book.specs.Books.{plain_book}
-use Rattle.book.specs.Views.{plain_entry}
+use Rattle.book.specs.Book as plain
+use Rattle.book.specs.Changing.{Withdraws}
+use Rattle.book.specs.Views.{plain_entry, book_of, FindsLabel}
 use Rattle.book.proofs.Parting.{determined}
-use Rattle.book.proofs.Standing.{removed_book, sound_less}
+use Rattle.book.proofs.Standing.{withdrawn, sound_less}
 use Rattle.book.proofs.book.Book.withdraw.Goals as goal
 
-pub take_out-requires : goal.take_out-requires
-take_out-requires c =
-    let b = c.args.self.now in
-    let (e, carries) = c.in-Some.ensures in
-    omega (arith, at_below (plain_book b).entries c.in-Some.number e carries.here, b.rules.ok.0, length-map (vec_items b.rules) plain_entry)
+pub returns-in_err-number-clause-determined : goal.returns-in_err-number-clause-determined
+returns-in_err-number-clause-determined c = determined c.args.self.now
+
+pub returns-clause-determined : goal.returns-clause-determined
+returns-clause-determined c = determined c.args.self.now
+
+pub returns-clause-withdrawn : goal.returns-clause-withdrawn
+returns-clause-withdrawn c =
+    let b = c.self.inside in
+    let label = c.args.label.now in
+    let found = subst (λ (x : plain.Book). FindsLabel x label c.find.result) (sym c.self.view_is) c.find.ensures in
+    subst (λ (x : plain.Book). Withdraws x label (book_of c.remove.new.self.items b.known)) c.self.view_is (withdrawn b.rules.items c.remove.new.self.items b.known label c.find.result c.in_ok-number.number found c.in_ok-number.ensures.ok_part c.remove.ensures.items)
 
 pub invariant_of-self : goal.invariant_of-self
 invariant_of-self c =
-    let b = c.args.self.now in
-    let (e, carries) = c.in-Some.ensures in
-    let gone = removed_book (vec_items b.rules) _ c.in-Some.number b.known c.take_out.ensures.items in
-    record {
-      room = subst (λ (n : ℕ). 64 ≤ n) (sym c.take_out.ensures.capacity) b.room;
-      sound = sound_less (plain_book b) _ c.args.label.now b.sound (record { number = c.in-Some.number; entry = e; carries = carries; becomes = gone });
-    }
+    let b = c.self.inside in
+    let label = c.args.label.now in
+    let found = subst (λ (x : plain.Book). FindsLabel x label c.find.result) (sym c.self.view_is) c.find.ensures in
+    let gone = withdrawn b.rules.items c.remove.new.self.items b.known label c.find.result c.in_ok-number.number found c.in_ok-number.ensures.ok_part c.remove.ensures.items in
+    (subst (λ (n : ℕ). 64 ≤ n) (sym c.remove.ensures.capacity) c.self.invariant.0, sound_less (book_of b.rules.items b.known) _ label c.self.invariant.1 gone)
 
-pub returns-in-Some : goal.returns-in-Some
-returns-in-Some c =
-    let b = c.args.self.now in
-    let (e, carries) = c.in-Some.ensures in
-    let gone = removed_book (vec_items b.rules) _ c.in-Some.number b.known c.take_out.ensures.items in
-    record { withdrawn = record { number = c.in-Some.number; entry = e; carries = carries; becomes = gone }; determined = determined (plain_book b) }
-
-pub returns-in-None : goal.returns-in-None
-returns-in-None c = let b = plain_book c.args.self.now in record { withdrawn = (c.in-None.ensures, refl, refl, refl); determined = determined b }
+pub remove-requires : goal.remove-requires
+remove-requires c =
+    let b = c.self.inside in
+    let label = c.args.label.now in
+    let found = subst (λ (x : plain.Book). FindsLabel x label c.find.result) (sym c.self.view_is) c.find.ensures in
+    let (e, carries) = subst (λ (x : Option ℕ). FindsLabel (book_of b.rules.items b.known) label x) c.in_ok-number.ensures.ok_part found in
+    omega (arith, at_below (book_of b.rules.items b.known).entries c.in_ok-number.number e carries.here, b.rules.ok.0, length-map (vec_items b.rules) plain_entry)

@@ -1,8 +1,7 @@
-use Rattle.std.proofs.Common.{◌≤◌, [], None, refl, arith}
+use Rattle.std.proofs.Common.{◌≤◌, length, [], None, refl}
 use Rattle.std.proofs.lemmas.Result.{err_from_is_err_and}
-use Rattle.lists.proofs.Searching.{front_length}
 use Rattle.patterns.specs.Tables.{side_of}
-use Rattle.naming.specs.Names.{plain_predicate, predicates_of}
+use Rattle.naming.specs.Names.{predicates_of}
 use Rattle.naming.specs.Numbering.{Distinct}
 use Rattle.naming.specs.declared.predicate.Predicates.{Predicates}
 use Rattle.book.specs.Learning.{Learnt}
@@ -13,30 +12,28 @@ use Rattle.book.proofs.learning.Learning.learn.Goals as goal
 abbrev start : Predicates → Learning
 start t = record { known = t; extra = None }
 
-begun : (t : Predicates) → t.count ≤ 32 → Distinct (predicates_of t) → Learnt (predicates_of t) [] (start t)
-begun t few apart = learnt_none (start t) refl apart (omega (arith, front_length plain_predicate t.table t.count (omega (arith, t.few, t.wide))))
+begun : (t : Predicates) → length (predicates_of t) ≤ 32 → Distinct (predicates_of t) → Learnt (predicates_of t) [] (start t)
+begun t few apart = learnt_none (start t) refl apart few
 
 pub returns-in_err-learn_side : goal.returns-in_err-learn_side
 returns-in_err-learn_side c =
     let t = c.args.known.now in
     let rule = c.args.rule.now in
-    let s = rule.line.now in
     let p = err_from_is_err_and c.from_residual.result c.from_residual.ensures.1 in
-    rw (p.1, p.2) (line_stuck_body (predicates_of t) (side_of s rule.body) (side_of s rule.head) (start t) c.learn_side.new.self c.learn_side.new.self (begun t c.requires.few c.requires.names) c.in_err-learn_side.field-0.0 c.in_err-learn_side.ensures.learned)
+    rw (p.1, p.2) (line_stuck_body (predicates_of t) (side_of rule.body) (side_of rule.head) (start t) c.learn_side.new.self c.learn_side.new.self (begun t c.requires.few c.requires.names) c.in_err-learn_side.field-0.0 c.in_err-learn_side.ensures.learned)
 
 pub returns-in_err-learn_side-2 : goal.returns-in_err-learn_side-2
 returns-in_err-learn_side-2 c =
     let t = c.args.known.now in
     let rule = c.args.rule.now in
-    let s = rule.line.now in
     let r = c.from_residual-in_err-learn_side-2 in
     let p = err_from_is_err_and r.result r.ensures.1 in
     rw (p.1, p.2)
-    (line_stuck_head (predicates_of t) (side_of s rule.body) (side_of s rule.head) (start t) c.learn_side.new.self c.learn_side-2.new.self (begun t c.requires.few c.requires.names) c.in_err-learn_side-2.field-0.0 c.in_ok-learn_side.ensures.learned c.in_err-learn_side-2.ensures.learned)
+    (line_stuck_head (predicates_of t) (side_of rule.body) (side_of rule.head) (start t) c.learn_side.new.self c.learn_side-2.new.self (begun t c.requires.few c.requires.names) c.in_err-learn_side-2.field-0.0 c.in_ok-learn_side.ensures.learned c.in_err-learn_side-2.ensures.learned)
 
 pub returns : goal.returns
 returns c =
     let t = c.args.known.now in
     let rule = c.args.rule.now in
-    let body = side_of rule.line.now rule.body in
+    let body = side_of rule.body in
     c.in_ok-learn_side-2.ensures.learned (predicates_of t) body (c.in_ok-learn_side.ensures.learned (predicates_of t) [] (begun t c.requires.few c.requires.names))

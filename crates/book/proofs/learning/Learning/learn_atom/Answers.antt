@@ -1,48 +1,36 @@
-use Rattle.std.proofs.Common.{ℕ, List, length, take, sym, refl, ap, ◌∙◌, subst, arith}
+use Rattle.std.proofs.Common.{ℕ, ◌≡◌, ◌≤◌, List, length, take, sym, ap, ◌∙◌, subst}
 use Rattle.std.proofs.Math.ListN.{length-map}
 use Rattle.std.proofs.lemmas.List.{take_all}
-use Rattle.patterns.specs.Tables.{written, word_at, spans}
-use Rattle.patterns.specs.declared.atom.Span.{Span}
-use Rattle.naming.specs.Names.{text_at, predicates_of}
+use Rattle.tokens.specs.declared.token.Word.{Word}
+use Rattle.patterns.specs.Tables.{written, word_of}
+use Rattle.patterns.specs.declared.atom.Atom.{Atom}
+use Rattle.naming.specs.Names.{predicates_of}
 use Rattle.book.specs.Learning.{NewLearned}
-use Rattle.book.proofs.Atomwise.{learnt_same, learnt_new, clash_here, named_there}
+use Rattle.book.specs.declared.learning.Learning.{Learning}
+use Rattle.book.proofs.Atomwise.{learnt_same, learnt_new, named_there}
 use Rattle.book.proofs.learning.Learning.learn_atom.Goals as goal
 
-pub returns-then-not-same : goal.returns-then-not-same
-returns-then-not-same c =
-    let s = c.args.line.now in
-    let a = c.args.atom.now in
-    let (i, p, at, name, columns) = c.in-Some.ensures in
-    let spelled = c.text.ensures.holds ∙ ap (text_at s) c.predicate-word.ensures in
-    let long = ap (λ (k : List Span). length k) c.words-columns.ensures.words ∙ sym (length-map (spans a) (word_at s)) in
-    record {
-      learned = (clash_here (written s a) c.args.self.now i p at (name ∙ spelled) (λ e. c.if-not-same.true (long ∙ sym e ∙ columns)), refl, ap (λ (w : Span). w.place) c.predicate-word.ensures);
-      count = omega arith;
-    }
+many : (a : Atom) (ws : List Word) → ws ≡ a.words.items → length ws ≡ length (written a).words
+many a ws e = ap (λ (k : List Word). length k) e ∙ sym (length-map a.words.items word_of)
 
-pub returns-else-not-same : goal.returns-else-not-same
-returns-else-not-same c =
-    let s = c.args.line.now in
-    let a = c.args.atom.now in
-    let (i, p, at, name, columns) = c.in-Some.ensures in
-    let spelled = c.text.ensures.holds ∙ ap (text_at s) c.predicate-word.ensures in
-    let long = ap (λ (k : List Span). length k) c.words-columns.ensures.words ∙ sym (length-map (spans a) (word_at s)) in
-    record {
-      learned = learnt_same (written s a) c.args.self.now (named_there (written s a) (predicates_of c.args.self.now.known) i p at (name ∙ spelled) (columns ∙ sym c.if-not-same.false ∙ long));
-      count = omega arith;
-    }
+new_learned : (a : Atom) (word : Word) (n : ℕ) (l m : Learning) → word ≡ a.predicate → n ≡ length (written a).words → length a.predicate.text.now ≤ 8 → NewLearned (take 8 word.text.now) n word.place l m → NewLearned a.predicate.text.now (length (written a).words) a.predicate.place l m
+new_learned a word n l m e f short new =
+    subst (λ (k : List ℕ). NewLearned k (length (written a).words) a.predicate.place l m) (take_all 8 a.predicate.text.now short)
+    (subst (λ (k : ℕ). NewLearned (take 8 a.predicate.text.now) k a.predicate.place l m) f (subst (λ (w : Word). NewLearned (take 8 w.text.now) n w.place l m) e new))
 
-pub returns-in-None : goal.returns-in-None
-returns-in-None c =
-    let s = c.args.line.now in
+pub returns-else-known-columns-clause-learned : goal.returns-else-known-columns-clause-learned
+returns-else-known-columns-clause-learned c =
+    let a = c.args.atom.now in
+    let l = c.args.self.now in
+    let (i, p, at, name, columns) = c.in-Some.ensures in
+    let spelled = ap (λ (w : Word). w.text.now) c.predicate-word.ensures in
+    learnt_same (written a) l (named_there (written a) (predicates_of l.known) i p at (name ∙ spelled) (columns ∙ c.if-known-columns.false ∙ many a c.words-columns.result.now c.words-columns.ensures.words))
+
+pub returns-in-None-clause-learned : goal.returns-in-None-clause-learned
+returns-in-None-clause-learned c =
     let a = c.args.atom.now in
     let l = c.args.self.now in
     let m = c.learn_new.new.self in
-    let word = c.predicate-word.ensures in
-    let spelled = c.text.ensures.holds ∙ ap (text_at s) word in
-    let long = ap (λ (k : List Span). length k) c.words-columns.ensures.words ∙ sym (length-map (spans a) (word_at s)) in
-    let name = ap (λ (w : Span). take 8 (text_at s w)) word ∙ take_all 8 (text_at s a.predicate) c.requires.short in
-    let new = subst (λ (n : List ℕ). NewLearned n (length (written s a).words) a.predicate.place l m) name
-    (subst (λ (n : ℕ). NewLearned (take 8 (text_at s c.predicate-word.result)) n a.predicate.place l m) long
-    (subst (λ (n : ℕ). NewLearned (take 8 (text_at s c.predicate-word.result)) (length c.words-columns.result.now) n l m) (ap (λ (w : Span). w.place) word) c.learn_new.ensures.new)) in
-    record { learned = learnt_new (written s a) l m (λ i p at e. c.in-None.ensures i p at (e ∙ sym spelled)) new; count = c.learn_new.ensures.count }
+    let spelled = ap (λ (w : Word). w.text.now) c.predicate-word.ensures in
+    learnt_new (written a) l m (λ i p at e. c.in-None.ensures i p at (e ∙ sym spelled))
+    (new_learned a c.predicate-word.result (length c.words-columns.result.now) l m c.predicate-word.ensures (many a c.words-columns.result.now c.words-columns.ensures.words) c.requires.short c.learn_new.ensures)

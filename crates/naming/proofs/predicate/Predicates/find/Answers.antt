@@ -1,23 +1,14 @@
-use Rattle.std.proofs.Common.{◌≤◌, length, sym, ◌∙◌, arith}
-use Rattle.std.proofs.lemmas.Bool.{false≢true}
-use Rattle.lists.proofs.Searching.{none_more, found_first, none_all, front_at, front_length}
-use Rattle.naming.specs.Names.{plain_predicate, predicates_of}
+use Rattle.std.proofs.Common.{rules, ◌≡◌}
+use Rattle.std.proofs.lemmas.Iterator.{IsFirst-from_position, YieldsList-from_slice}
+use Rattle.rules.specs.Names.{text_of}
+use Rattle.naming.specs.Names.{plain_predicate, predicates_of, Finds}
+use borrow.Author.Tests.{tests}
+use Rattle.naming.proofs.Finding.{finds}
 use Rattle.naming.proofs.predicate.Predicates.find.Goals as goal
-
-pub returns-then-is : goal.returns-then-is
-returns-then-is c =
-    let t = c.args.self.now in
-    let within : t.count ≤ length t.table = omega (arith, t.few, t.wide) in
-    (_, found_first _ (predicates_of t) c.search.i c.search.invariant _ (front_at plain_predicate t.table t.count within c.search.i _ c.search-test.true) (c.is.ensures.0 c.if-is.true))
-
-pub search-preserved : goal.search-preserved
-search-preserved c =
-    let t = c.args.self.now in
-    let within : t.count ≤ length t.table = omega (arith, t.few, t.wide) in
-    none_more _ (predicates_of t) c.search.i c.search.invariant _ (front_at plain_predicate t.table t.count within c.search.i _ c.search-test.true) (λ same. false≢true (sym c.if-is.false ∙ c.is.ensures.1 same))
 
 pub returns : goal.returns
 returns c =
-    let t = c.args.self.now in
-    let long = front_length plain_predicate t.table t.count (omega (arith, t.few, t.wide)) in
-    none_all _ (predicates_of t) c.search.i c.search.invariant (omega arith)
+    let name = c.args.name.now in
+    let known = c.args.self.now.list.items in
+    finds plain_predicate (λ x. x.name ≡ name) known (Finds (predicates_of c.args.self.now) name) (λ none. none) (λ i some. some) c.position.result
+    (IsFirst-from_position _ _ c.position.result (λ x. text_of x.name ≡ name) (λ x. text_of x.name ≡ name → ⊥) c.position.ensures.ran (YieldsList-from_slice known cc) (λ x q k. search (rules, tests)) (λ x q k. search (rules, tests)))

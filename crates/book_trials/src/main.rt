@@ -25,14 +25,8 @@ fn report(rt: &HostRuntime, text: &[u8]) -> io::Result<()> {
 }
 
 fn told(rt: &HostRuntime, position: usize, rank: Rank, affected: bool) -> io::Result<()> {
-    match rank {
-        Rank::Number(n) => print!(rt; "position {position} rank {n}")?,
-        Rank::Infinite => print!(rt; "position {position} infinite")?,
-    }
-    if affected {
-        return println!(rt; " affected");
-    }
-    println!(rt; "")
+    let mark = if affected { " affected" } else { "" };
+    println!(rt; "position {position} {rank}{mark}")
 }
 
 // The rank of each known position, and whether it is affected; how many are refused, up to some past the last.

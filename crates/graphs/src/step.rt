@@ -1,6 +1,6 @@
 // A step of a walk, and of a witness.
 
-// What `from` and `to` number depends on the kind: positions, predicates, marks, atoms or variables.
+// The kind is a number and no enum, since steps to be checked come from outside with any number there. What `from` and `to` number depends on it: positions, predicates, marks, atoms or variables.
 #[derive(Clone, Copy, Debug, PartialEq, Eq)]
 pub struct Step {
     pub kind: u16,

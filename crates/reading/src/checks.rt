@@ -43,7 +43,7 @@ fn check_word(token: Token) -> Result<(), Refusal>
     }
 }
 
-// The lexer cannot refuse a line whose bytes all belong to tokens or are blanks, so only a long word does.
+// The lexer cannot refuse a line whose bytes all belong to tokens or are blanks, so only a long word does. It is no iterator to go over: at a stray byte it stays and refuses again, and an iterator has to end.
 pub fn check_words(line: &[u8]) -> Result<(), Refusal>
     ensures { (form : Form) (ts : List PlainToken) → Tokens line.now ts → Answers form line.now word_length result }
 {

@@ -13,7 +13,7 @@ use patterns::state::Form;
 use questions::question::Refusal;
 use tokens::lexer::Lexer;
 
-// The pattern, and then the counts.
+// The pattern, and then the counts. The lexer is no iterator, since it may refuse without end.
 fn read_pattern<'a>(line: &'a [u8], form: Form) -> Result<Tables<'a>, Refusal>
     requires { (ts : List PlainToken) × Tokens line.now ts }
     ensures { Patterned form line.entry result }
@@ -36,7 +36,7 @@ fn read<'a>(line: &'a [u8], form: Form) -> Result<Tables<'a>, Refusal>
     read_pattern(line, form)
 }
 
-// A rule line, `label||| body -> head.`, with its words.
+// A rule line, `label||| body -> head.`, with its words. Two functions and no generic one, since the two lines share no part but `read`.
 pub fn read_rule<'a>(line: &'a [u8]) -> Result<RuleLine<'a>, Refusal>
     ensures read { ReadRule line.entry result }
     ensures determined { LineDetermined forms.Rule line.now }

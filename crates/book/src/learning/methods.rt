@@ -25,6 +25,7 @@ fn columns_of(known: &Predicates, name: &[u8]) -> Option<usize>
     Some(predicate.columns)
 }
 
+// That there is room and that words are short is asked call by call, in private: how many atoms are still to come no type can say, and an atom by itself may have a long word.
 impl Learning {
     // One predicate more; if 32 were known, it is one too many.
     fn learn_new(&mut self, word: Word, columns: usize)

@@ -1,7 +1,5 @@
 -- The system of positions, step by step.
-use Rattle.std.proofs.Common.{◌≡◌, ℕ, ◌<◌, Bool, false, List, map, length, get_or, Some, None, Decides, Option, sym, refl, ◌∙◌, subst, arith}
-use Rattle.std.specs.Option.{MatchOption, option_map}
-use Rattle.std.proofs.lemmas.Bool.{false≢true}
+use Rattle.std.proofs.Common.{◌≡◌, ℕ, ◌<◌, Bool, List, map, length, get_or, Some, Decides, sym, refl, subst}
 use Rattle.lists.proofs.Elements.{map_at}
 use Rattle.lists.proofs.Mapped.{at_map}
 use Rattle.lists.proofs.Numbered.{at_below, at_get, get_at}
@@ -11,8 +9,6 @@ use Rattle.theory.specs.Occurrences.{positions_of}
 use Rattle.theory.proofs.Occurring.{stands_in}
 use Rattle.theory.proofs.Positions.{positions_some, positions_only}
 use Rattle.rules.specs.declared.rule.Rule as memory
-use Rattle.dependencies.specs.declared.occurrence.Occurrence.{Occurrence}
-use Rattle.dependencies.specs.Views.{pair}
 use Rattle.rules.specs.Views.{plain_side, plain_rule}
 use Rattle.rules.proofs.Smallness.{side_small}
 use Rattle.fixpoint.specs.Least.{FoundBy, Held}
@@ -70,14 +66,8 @@ held_each rounds before os r h = ((λ t. found (h.0 t)), λ t. h.1 (back t))
 positions_in : (atoms : List plain.Atom) (v : ℕ) → 0 < length (positions_of atoms v) → In atoms v
 positions_in atoms v l = let p = get_or (positions_of atoms v) 0 0 in stands_in atoms v p (positions_only atoms v 0 p (get_at (positions_of atoms v) 0 0 l))
 
--- what is said of an occurrence, said of the pair
-pub matched : (N : Type 0) (Q : ℕ × ℕ → Type 0) (o : Option Occurrence) → MatchOption o N (λ x. Q (pair x)) → MatchOption (option_map pair o) N Q
-matched N Q None h = h
-matched N Q (Some x) h = h
-
 -- whether the step of a head occurrence is ready
-pub ready_through : (x : memory.Rule) (rounds : List ℕ) (before : ℕ) (o : Option (ℕ × ℕ)) (r : Bool)
-    → MatchOption o (r ≡ false) (λ o. Decides r (In (plain_side x.body) o.0 × Held rounds before (positions_of (plain_side x.body) o.0)))
-    → Decides r (Ready rounds before (needs_through (plain_rule x) o))
-ready_through x rounds before None r e = ((λ t. absurd (false≢true (sym e ∙ t))), λ t. absurd (omega (arith, t.0)))
-ready_through x rounds before (Some o) r d = ((λ t. let (inside, held) = d.0 t in (positions_some (plain_side x.body) o.0 (side_small x.body) inside, held)), λ t. d.1 (positions_in (plain_side x.body) o.0 t.0, t.1))
+pub ready_through : (x : memory.Rule) (rounds : List ℕ) (before : ℕ) (o : ℕ × ℕ) (r : Bool)
+    → Decides r (In (plain_side x.body) o.0 × Held rounds before (positions_of (plain_side x.body) o.0))
+    → Decides r (Ready rounds before (needs_through (plain_rule x) (Some o)))
+ready_through x rounds before o r d = ((λ t. let (inside, held) = d.0 t in (positions_some (plain_side x.body) o.0 (side_small x.body) inside, held)), λ t. d.1 (positions_in (plain_side x.body) o.0 t.0, t.1))

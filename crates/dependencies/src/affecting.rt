@@ -8,7 +8,7 @@ ghost use Rattle.dependencies.specs.Affecting.{FirstOf, needs_of, leads_of, need
 
 use crate::positions::Positions;
 use crate::reading::{MOST, contains, occurrence, occurrences_in};
-use fixpoint::{Round, System, found_by, search};
+use fixpoint::{Reached, System, search};
 use ranks::table::POSITIONS;
 use rules::rule::{Rule, Side};
 use std::array;
@@ -20,13 +20,13 @@ fn is_first_in(rule: &Rule, position: usize) -> bool
     occurrences_in(&rule.head).any(|o| o.position == position && !contains(&rule.body, o.variable))
 }
 
-// Whether all positions of the variable in the side are found by the round `before`.
-fn all_found(side: &Side, variable: u8, rounds: &[Round; 1024], before: Round) -> bool
-    ensures { Decides result (Held rounds.now before (positions_of (plain_side side.now) variable)) }
+// Whether all positions of the variable in the side are reached.
+fn all_reached(side: &Side, variable: u8, reached: Reached<'_>) -> bool
+    ensures { Decides result (Held reached.entry.rounds.now reached.entry.before (positions_of (plain_side side.now) variable)) }
 {
     occurrences_in(side)
         .filter(|o| o.variable == variable)
-        .all(|o| found_by(rounds, o.position, before))
+        .all(|o| reached.has(o.position))
 }
 
 // The position of the one occurrence of the variable in the side; none if it does not occur, or twice or more.
@@ -43,13 +43,15 @@ fn only_position(side: &Side, variable: u8) -> Option<usize>
     }
 }
 
-// Whether head occurrence `n` of the rule is of a frontier variable all of whose body positions are found by the round `before`.
-fn is_ready(rule: &Rule, n: usize, rounds: &[Round; 1024], before: Round) -> bool
-    ensures { Decides result (Ready rounds.now before (needs_through (plain_rule rule.now) (occurrence_of (plain_side rule.now.head) n))) }
+// Whether head occurrence `n` of the rule is of a frontier variable all of whose body positions are reached.
+fn is_ready(rule: &Rule, n: usize, reached: Reached<'_>) -> bool
+    ensures { Decides result (Ready reached.entry.rounds.now reached.entry.before (needs_through (plain_rule rule.now) (occurrence_of (plain_side rule.now.head) n))) }
 {
-    occurrence(&rule.head, n).is_some_and(|o| {
-        contains(&rule.body, o.variable) && all_found(&rule.body, o.variable, rounds, before)
-    })
+    // No `is_some_and`, here and in `ready`: a closure that holds `reached` promised nothing there.
+    let Some(o) = occurrence(&rule.head, n) else {
+        return false;
+    };
+    contains(&rule.body, o.variable) && all_reached(&rule.body, o.variable, reached)
 }
 
 impl System for Positions<'_> {
@@ -82,10 +84,8 @@ impl System for Positions<'_> {
             .map_or(POSITIONS, |o| o.position)
     }
 
-    fn ready(&self, s: usize, rounds: &[Round; 1024], before: Round) -> bool {
-        self.rules
-            .get(s / MOST)
-            .is_some_and(|rule| is_ready(rule, s % MOST, rounds, before))
+    fn ready(&self, s: usize, reached: Reached<'_>) -> bool {
+        matches!(self.rules.get(s / MOST), Some(rule) if is_ready(rule, s % MOST, reached))
     }
 
     fn single(&self, s: usize) -> Option<usize> {

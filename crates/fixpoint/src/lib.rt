@@ -1,16 +1,18 @@
 // The one search: what follows in a system of steps, the round in which each item is found, ways back and an order.
 #![tactic(auto)]
 
-ghost use Rattle.std.specs.Prelude.{◌≡◌, ℕ, ◌<◌, ◌≤◌, List, [], ◌∷◌, Decides, slice_index};
-ghost use Rattle.fixpoint.specs.Least.{FoundBy, Found, Determined};
+ghost use Rattle.std.specs.Prelude.{◌≡◌, ℕ, ◌<◌, ◌≤◌, List, Decides, slice_index};
+ghost use Rattle.fixpoint.specs.Least.{Found, Determined};
 ghost use Rattle.fixpoint.specs.Growing.{Begun, Grown};
 ghost use Rattle.fixpoint.specs.Steps.{Step, Ready, Single};
 ghost use Rattle.fixpoint.specs.Ways.{Ordered, Grounded};
 
 mod order;
+mod reached;
 mod way;
 
 pub use order::in_order;
+pub use reached::Reached;
 pub use way::way_back;
 
 /// The number of a round: 1 for the first items.
@@ -53,9 +55,9 @@ pub trait System {
     fn target(&self, s: usize) -> usize
         ensures { s < count self.now → result ≡ leads self.now s };
 
-    // Whether all that a step waits for is found by the round `before`.
-    fn ready(&self, s: usize, rounds: &Rounds, before: Round) -> bool
-        ensures { s < count self.now → Decides result (Ready rounds.now before (needs self.now s)) };
+    // Whether all that a step waits for is reached.
+    fn ready(&self, s: usize, reached: Reached<'_>) -> bool
+        ensures { s < count self.now → Decides result (Ready reached.entry.rounds.now reached.entry.before (needs self.now s)) };
 
     // The one item that a step waits for; none if it waits for none or several.
     fn single(&self, s: usize) -> Option<usize>
@@ -67,14 +69,6 @@ fn round_of(rounds: &Rounds, item: usize) -> Round
     ensures { result ≡ slice_index rounds.now item }
 {
     rounds.get(item).copied().unwrap_or(0)
-}
-
-/// Whether an item has a round from 1 to `before`, so that a step from it alone is ready.
-pub fn found_by(rounds: &Rounds, item: usize, before: Round) -> bool
-    ensures found { Decides result (FoundBy rounds.now before item) }
-    ensures ready { Decides result (Ready rounds.now before (item ∷ [])) }
-{
-    (1..=before).contains(&round_of(rounds, item))
 }
 
 /// The table before any step: a first item has round 1.
@@ -101,7 +95,7 @@ fn grow<Y: System>(system: &Y, rounds: &mut Rounds, before: Round) -> bool
     for s in 0..system.steps() {
         let to = system.target(s);
         let fresh = to < n && rounds[to] == 0;
-        if fresh && system.ready(s, rounds, before) {
+        if fresh && system.ready(s, Reached { rounds, before }) {
             rounds[to] = before + 1;
             grew = true;
         }

@@ -5,7 +5,7 @@ ghost use Rattle.ranks.specs.Tables.{source};
 
 use crate::best::{Numbers, relax};
 use crate::table::{ENTRIES, POSITIONS, Table};
-use fixpoint::{Round, Rounds, System, found_by};
+use fixpoint::{Reached, System};
 
 // The items are the positions, and the steps the entries of the table.
 #[derive(Clone, Copy)]
@@ -41,9 +41,9 @@ impl System for Unsettled<'_> {
         s % POSITIONS
     }
 
-    fn ready(&self, s: usize, rounds: &Rounds, before: Round) -> bool {
-        self.single(s)
-            .is_some_and(|position| found_by(rounds, position, before))
+    fn ready(&self, s: usize, reached: Reached<'_>) -> bool {
+        // No `is_some_and`: a closure that holds `reached` promised nothing there.
+        matches!(self.single(s), Some(position) if reached.has(position))
     }
 
     fn single(&self, s: usize) -> Option<usize> {

@@ -10,14 +10,14 @@ use Rattle.dependencies.specs.Occurring.{occurrences_of, rest}
 use Rattle.dependencies.proofs.Listing.{only_positions}
 use Rattle.dependencies.proofs.Looking.{all_decides}
 use Rattle.dependencies.proofs.Passing.{held_each}
-use Rattle.dependencies.proofs.affecting.all_found.Goals as goal
+use Rattle.dependencies.proofs.affecting.all_reached.Goals as goal
 
 pub returns : goal.returns
 returns c =
     let v = c.args.variable in
     let atoms = plain_side c.args.side.now in
-    let rounds = c.args.rounds.now in
-    let before = c.args.before in
+    let rounds = c.args.reached.rounds.now in
+    let before = c.args.reached.before in
     let found : ℕ × ℕ → Type 0 = λ o. FoundBy rounds before o.1 in
     let os = filter (λ (o : ℕ × ℕ). eqb o.0 v) (occurrences_of atoms) in
     subst (λ (ps : List ℕ). Decides c.all.result (Held rounds before ps)) (only_positions atoms v)

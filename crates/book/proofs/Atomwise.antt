@@ -13,7 +13,7 @@ use Rattle.naming.specs.Names.{predicates_of}
 use Rattle.naming.specs.Numbering.{Distinct}
 use Rattle.naming.proofs.Naming.{same_predicate}
 use Rattle.book.specs.Asking.{OneMore}
-use Rattle.book.specs.Learning.{Extra, Learnt, Clash, NewLearned}
+use Rattle.book.specs.Learning.{Extra, Learnt, NewLearned}
 use Rattle.book.specs.declared.learning.Learning.{Learning}
 
 one_more_longer : (known : List Predicate) (atoms more : List Written) (k : ℕ) (a : Written) → OneMore known atoms k a → OneMore known (atoms ++ more) k a
@@ -67,10 +67,6 @@ learnt_new w l m unnamed n known atoms t = record {
 
     fits : length seen ≢ 32 → length seen ≤ 32 → length after ≤ 32
     fits other h = omega (arith, other, ap (λ (xs : List Predicate). length xs) n.known, length-append seen (predicate_of w ∷ []))
-
--- a predicate of the name is known with other columns
-pub clash_here : (w : Written) (l : Learning) (i : ℕ) (p : Predicate) → At (predicates_of l.known) i p → p.name ≡ w.predicate.text → (p.columns ≡ length w.words → ⊥) → (known : List Predicate) (atoms : List Written) → Learnt known atoms l → Clash known atoms w
-clash_here w l i p at e ne known atoms t = record { seen = predicates_of l.known; joined = t.joined; names = t.names; other = p; there = (i, at); name = e; columns = ne }
 
 -- a predicate of the name with as many columns is the atom's
 pub named_there : (w : Written) (known : List Predicate) (i : ℕ) (p : Predicate) → At known i p → p.name ≡ w.predicate.text → p.columns ≡ length w.words → Holds known (predicate_of w)

@@ -1,10 +1,10 @@
 pub mod Atomwise
 pub mod Clashing
 pub mod Deciding
+pub mod Linewise
 pub mod Occurrences
 pub mod Parting
 pub mod Preparing
-pub mod Sidewise
 pub mod Sounding
 pub mod Standing
 pub mod Written

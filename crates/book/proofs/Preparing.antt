@@ -1,11 +1,11 @@
 -- The questions of adding in their order, and what is prepared once they are answered.
-use Rattle.std.proofs.Common.{◌≡◌, ℕ, ◌+◌, ◌≤◌, List, [], ◌∷◌, ◌++◌, map, length, take, Some, None, Err, Option, sym, refl, ap, ◌∙◌, subst, inl, inr, arith}
+use Rattle.std.proofs.Common.{◌≡◌, ℕ, ◌+◌, ◌≤◌, List, [], ◌∷◌, ◌++◌, map, length, take, Some, None, Err, Option, sym, refl, ap, ◌∙◌, subst, inl, inr, ⊎_elim, arith}
 use Rattle.std.proofs.Math.Logic.{∥∥₁_elim}
 use Rattle.std.proofs.Math.Bridge.{le_prop}
 use Rattle.std.proofs.Math.Nat.{ℕ_set}
 use Rattle.std.proofs.lemmas.List.{take_all}
 use Rattle.lists.specs.Places.{At, Holds}
-use Rattle.lists.proofs.Elements.{map_at, at_behind}
+use Rattle.lists.proofs.Elements.{map_at, at_behind, at_either}
 use Rattle.lists.proofs.Numbered.{at_left, at_below}
 use Rattle.lists.proofs.Joining.{joined_has}
 use Rattle.questions.specs.Asking as asking
@@ -75,11 +75,8 @@ module _ (b : plain.Book) (line : List ℕ) (label : Token) (body head : List Wr
   well : WrittenWell label body head
   well = written_well line label body head passes writes
 
-  pub short_body : AllShort body
-  short_body = well.the_body.short
-
-  pub short_head : AllShort head
-  short_head = well.the_head.short
+  pub short_atoms : AllShort (body ++ head)
+  short_atoms k w at = ⊎_elim (λ (j, h). well.the_body.short j w h) (λ (j, h). well.the_head.short j w h) (at_either body head k w at)
 
   pub yes_label : ((i : ℕ) (e : plain.Entry) → plain.Carries b label.text i e → ⊥) → Yes b line label_unused
   yes_label none = (label, body, head, writes, none)

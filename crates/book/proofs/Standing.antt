@@ -1,5 +1,5 @@
 -- The rules in memory after one more stands, and after one is withdrawn.
-use Rattle.std.proofs.Common.{◌≡◌, ℕ, zero, suc, ◌<◌, List, [], ◌∷◌, ◌++◌, map, length, take, drop, refl, ap, ◌∙◌, subst, Some, Option}
+use Rattle.std.proofs.Common.{◌≡◌, ℕ, zero, suc, List, [], ◌∷◌, ◌++◌, map, take, drop, refl, ap, ◌∙◌, subst, Some, Option}
 use Rattle.std.specs.List.{remove}
 use Rattle.std.proofs.Math.Logic.{∥∥₁_map}
 use Rattle.lists.proofs.Mapped.{map_snoc}
@@ -27,10 +27,6 @@ pub withdrawn : (xs ys : List Rule) (k : Predicates) (label : List ℕ) (r : Opt
 withdrawn xs ys k label r n f e gone =
     let found = subst (λ (x : Option ℕ). FindsLabel (book_of xs k) label x) e f in
     record { number = n; entry = found.0; carries = found.1; becomes = ap (λ (es : List plain.Entry). record { entries = es; known = predicates_of k }) (ap (map plain_entry) gone ∙ map_without xs n) }
-
--- fewer than 64 rules stand where the line passes
-pub rules_few : (b : plain.Book) (line : List ℕ) → Passes b line → length b.entries < 64
-rules_few b line (y, (z, (u, (v, (w, (label, (right, (few, (room, _))))))))) = room
 
 pub sound_more : (b after : plain.Book) (line : List ℕ) → ∥ Sound b ∥₁ → Passes b line → Adds b line after → ∥ Sound after ∥₁
 sound_more b after line s passes adds = ∥∥₁_map s (λ x. sound_added b after line x passes adds)

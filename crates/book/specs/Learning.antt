@@ -1,5 +1,5 @@
 -- Learning the predicates of a line atom by atom: what is learned, and where an atom clashes.
-use Rattle.std.specs.Prelude.{◌≡◌, ℕ, ◌≤◌, List, [], ◌∷◌, ◌++◌, length, take, Some, None, Ok, Err, Option, Result, ◌≢◌}
+use Rattle.std.specs.Prelude.{◌≡◌, ℕ, ◌≤◌, List, [], ◌∷◌, ◌++◌, length, Some, None, Ok, Err, Option, Result, ◌≢◌}
 use Rattle.lists.specs.Places.{At, Holds, First}
 use Rattle.questions.specs.declared.question.Question.TheVariants.{Columns}
 use Rattle.questions.specs.declared.question.Refusal.{Refusal}
@@ -53,12 +53,6 @@ pub record NewLearned (name : List ℕ) (columns place : ℕ) (l m : Learning) :
 abbrev pub AtomLearned : Written → Learning → Learning → Result (Unit {0}) Refusal → Type 0
 AtomLearned w l m (Ok u) = (known : List Predicate) (atoms : List Written) → Learnt known atoms l → Learnt known (atoms ++ (w ∷ [])) m
 AtomLearned w l m (Err e) = ((known : List Predicate) (atoms : List Written) → Learnt known atoms l → Clash known atoms w) × (e.question ≡ Columns) × (e.place ≡ w.predicate.place)
-
--- a side more is learned, whatever was before; or its first atom that clashes
-abbrev pub SideLearned : List Written → Learning → Learning → Result (Unit {0}) Refusal → Type 0
-SideLearned ws l m (Ok u) = (known : List Predicate) (atoms : List Written) → Learnt known atoms l → Learnt known (atoms ++ ws) m
-SideLearned ws l m (Err e) =
-    (k : ℕ) × (w : Written) × At ws k w × ((known : List Predicate) (atoms : List Written) → Learnt known atoms l → Clash known (atoms ++ take k ws) w) × (e.question ≡ Columns) × (e.place ≡ w.predicate.place)
 
 -- the predicates of the whole line are learned; or this is its first atom with wrong columns
 abbrev pub LineLearned : List Predicate → List Written → List Written → Result Learning Refusal → Type 0

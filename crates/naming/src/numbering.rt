@@ -57,7 +57,7 @@ fn number_side<'a>(
 ) -> Option<Side>
     ensures { SideNumbered (predicates_of known.now) (side_of side.now) (names_of variables.old) (names_of variables.new) result }
 {
-    // An atom that is there already fills the unused places: to take the first of the side would need a case of its own.
+    // It lies in the unused places only. To fill them with the first atom of the side would take a case of its own.
     let filler = Atom::new(0, &[0])?;
     let mut atoms = Bounded::<Atom, MOST>::new(filler);
     for atom in side.atoms() {

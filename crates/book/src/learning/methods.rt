@@ -1,13 +1,13 @@
 // Learning the predicates of a line, atom by atom, each with the columns that its name should have.
-ghost use Rattle.std.specs.Prelude.{◌+◌, ◌<◌, ◌≤◌, length, take};
+ghost use Rattle.std.specs.Prelude.{◌+◌, ◌<◌, ◌≤◌, ◌++◌, length, take};
 ghost use Rattle.patterns.specs.Tables.{written, side_of};
 ghost use Rattle.naming.specs.Names.{predicates_of};
 ghost use Rattle.naming.specs.Numbering.{Distinct};
-ghost use Rattle.book.specs.Learning.{ColumnsOf, NewLearned, AtomLearned, Short, SideLearned, AllShort, LineLearned};
+ghost use Rattle.book.specs.Learning.{ColumnsOf, NewLearned, AtomLearned, Short, AllShort, LineLearned};
 
 use super::Learning;
 use naming::predicate::{Predicate, Predicates};
-use patterns::atom::{Atom, Side};
+use patterns::atom::Atom;
 use questions::question::{Question, Refusal};
 use reading::line::RuleLine;
 use rules::name::Name;
@@ -55,32 +55,20 @@ impl Learning {
         Ok(())
     }
 
-    fn learn_side(&mut self, side: &Side) -> Result<(), Refusal>
-        requires room { length (predicates_of self.old.known) + 4 ≤ 40 }
-        requires short { AllShort (side_of side.now) }
-        ensures learned { SideLearned (side_of side.now) self.old self.new result }
-        ensures count { length (predicates_of self.new.known) ≤ length (predicates_of self.old.known) + 4 }
-    {
-        for atom in side.atoms() {
-            self.learn_atom(atom)?;
-        }
-        Ok(())
-    }
-
     // The predicates of the whole line, body first.
     pub fn learn(known: &Predicates, rule: &RuleLine) -> Result<Learning, Refusal>
         requires few { length (predicates_of known.now) ≤ 32 }
         requires names { Distinct (predicates_of known.now) }
-        requires body { AllShort (side_of rule.now.body) }
-        requires head { AllShort (side_of rule.now.head) }
+        requires short { AllShort (side_of rule.now.body ++ side_of rule.now.head) }
         ensures { LineLearned (predicates_of known.now) (side_of rule.now.body) (side_of rule.now.head) result }
     {
         let mut learning = Learning {
             known: *known,
             extra: None,
         };
-        learning.learn_side(&rule.body)?;
-        learning.learn_side(&rule.head)?;
+        for atom in rule.body.atoms().iter().chain(rule.head.atoms()) {
+            learning.learn_atom(atom)?;
+        }
         Ok(learning)
     }
 }

@@ -21,7 +21,7 @@ use Rattle.book.specs.Changing.{Adds}
 use Rattle.book.specs.Learning.{Learnt, LineLearned}
 use Rattle.book.specs.Views.{plain_entry, book_of}
 use Rattle.book.specs.declared.learning.Learning.{Learning}
-use Rattle.book.proofs.Preparing.{few_known, known_names, turned_line, turned_label, turned_columns, turned_predicates, turned_rules, passes_all, short_body, short_head, yes_label, no_columns, yes_columns, no_predicates, yes_predicates, numbered_some, adds_so}
+use Rattle.book.proofs.Preparing.{few_known, known_names, turned_line, turned_label, turned_columns, turned_predicates, turned_rules, passes_all, short_atoms, yes_label, no_columns, yes_columns, no_predicates, yes_predicates, numbered_some, adds_so}
 use Rattle.book.proofs.book.Book.prepare.Goals as goal
 
 pub returns-in_err-written : goal.returns-in_err-written
@@ -49,8 +49,7 @@ learn-requires c =
     record {
       few = few_known b c.self.invariant.1;
       names = known_names b c.self.invariant.1;
-      body = short_body b c.args.line.now (word_of rule.label) (side_of rule.body) (side_of rule.head) writes passes;
-      head = short_head b c.args.line.now (word_of rule.label) (side_of rule.body) (side_of rule.head) writes passes;
+      short = short_atoms b c.args.line.now (word_of rule.label) (side_of rule.body) (side_of rule.head) writes passes;
     }
 
 -- the line that is read, of a label that no standing rule carries

@@ -1,39 +1,44 @@
-use Rattle.std.proofs.Common.{◌≤◌, length, [], None, refl}
+use Rattle.std.proofs.Common.{◌++◌, length, List, map, take, subst, arith, rules}
 use Rattle.std.proofs.lemmas.Result.{err_from_is_err_and}
-use Rattle.patterns.specs.Tables.{side_of}
+use Rattle.std.proofs.lemmas.Iterator.{YieldsList-from_slice}
+use Rattle.std.proofs.lemmas.Iterator.Consumers.{YieldsList-from_chain, YieldsList-turn}
+use Rattle.std.proofs.lemmas.List.{length_push}
+use Rattle.patterns.specs.Patterns.{Written}
+use Rattle.patterns.specs.Tables.{written}
 use Rattle.naming.specs.Names.{predicates_of}
-use Rattle.naming.specs.Numbering.{Distinct}
-use Rattle.naming.specs.declared.predicate.Predicates.{Predicates}
 use Rattle.book.specs.Learning.{Learnt}
-use Rattle.book.specs.declared.learning.Learning.{Learning}
-use Rattle.book.proofs.Sidewise.{learnt_none, line_stuck_body, line_stuck_head}
+use Rattle.book.proofs.Linewise.{short_at, one_more, line_stuck}
 use Rattle.book.proofs.learning.Learning.learn.Goals as goal
 
-abbrev start : Predicates → Learning
-start t = record { known = t; extra = None }
+pub learn_atom-requires-clause-short : goal.learn_atom-requires-clause-short
+learn_atom-requires-clause-short c =
+    let body = c.args.rule.now.body.atoms.items in
+    let head = c.args.rule.now.head.atoms.items in
+    let t = YieldsList-turn (YieldsList-from_chain (YieldsList-from_slice body (cc)) (YieldsList-from_slice head (cc)) (cc) (cc)) c.loop-atom.yielded _ c.loop-atom.yielded_by _ _ c.in-Some.atom c.in-Some.is c.next.ensures.steps in
+    short_at body head (length c.loop-atom.yielded) c.in-Some.atom.now t c.requires.short
 
-begun : (t : Predicates) → length (predicates_of t) ≤ 32 → Distinct (predicates_of t) → Learnt (predicates_of t) [] (start t)
-begun t few apart = learnt_none (start t) refl apart few
+pub loop-atom-preserved : goal.loop-atom-preserved
+loop-atom-preserved c =
+    let known = predicates_of c.args.known.now in
+    let body = c.args.rule.now.body.atoms.items in
+    let head = c.args.rule.now.head.atoms.items in
+    let k = length c.loop-atom.yielded in
+    let a = c.in-Some.atom.now in
+    let long = length_push c.loop-atom.yielded c.in-Some.atom in
+    let t = YieldsList-turn (YieldsList-from_chain (YieldsList-from_slice body (cc)) (YieldsList-from_slice head (cc)) (cc) (cc)) c.loop-atom.yielded _ c.loop-atom.yielded_by _ _ c.in-Some.atom c.in-Some.is c.next.ensures.steps in
+    let more = c.in_ok-learn_atom.ensures.learned known (map written (take k (body ++ head))) c.loop-atom.invariant.learnt in
+    record {
+      can_next = search rules;
+      is_finite = search rules;
+      count = omega (arith, c.learn_atom.ensures.count, c.loop-atom.invariant.count);
+      learnt = rw long (subst (λ (xs : List Written). Learnt known xs c.learn_atom.new.self) (one_more body head k a t) more);
+    }
 
-pub returns-in_err-learn_side : goal.returns-in_err-learn_side
-returns-in_err-learn_side c =
-    let t = c.args.known.now in
-    let rule = c.args.rule.now in
+pub returns-in_err-learn_atom : goal.returns-in_err-learn_atom
+returns-in_err-learn_atom c =
+    let body = c.args.rule.now.body.atoms.items in
+    let head = c.args.rule.now.head.atoms.items in
+    let t = YieldsList-turn (YieldsList-from_chain (YieldsList-from_slice body (cc)) (YieldsList-from_slice head (cc)) (cc) (cc)) c.loop-atom.yielded _ c.loop-atom.yielded_by _ _ c.in-Some.atom c.in-Some.is c.next.ensures.steps in
     let p = err_from_is_err_and c.from_residual.result c.from_residual.ensures.1 in
-    rw (p.1, p.2) (line_stuck_body (predicates_of t) (side_of rule.body) (side_of rule.head) (start t) c.learn_side.new.self c.learn_side.new.self (begun t c.requires.few c.requires.names) c.in_err-learn_side.field-0.0 c.in_err-learn_side.ensures.learned)
-
-pub returns-in_err-learn_side-2 : goal.returns-in_err-learn_side-2
-returns-in_err-learn_side-2 c =
-    let t = c.args.known.now in
-    let rule = c.args.rule.now in
-    let r = c.from_residual-in_err-learn_side-2 in
-    let p = err_from_is_err_and r.result r.ensures.1 in
     rw (p.1, p.2)
-    (line_stuck_head (predicates_of t) (side_of rule.body) (side_of rule.head) (start t) c.learn_side.new.self c.learn_side-2.new.self (begun t c.requires.few c.requires.names) c.in_err-learn_side-2.field-0.0 c.in_ok-learn_side.ensures.learned c.in_err-learn_side-2.ensures.learned)
-
-pub returns : goal.returns
-returns c =
-    let t = c.args.known.now in
-    let rule = c.args.rule.now in
-    let body = side_of rule.body in
-    c.in_ok-learn_side-2.ensures.learned (predicates_of t) body (c.in_ok-learn_side.ensures.learned (predicates_of t) [] (begun t c.requires.few c.requires.names))
+    (line_stuck body head (length c.loop-atom.yielded) c.in-Some.atom.now t (predicates_of c.args.known.now) c.loop-atom.learning c.learn_atom.new.self c.in_err-learn_atom.field-0.0 c.loop-atom.invariant.learnt c.in_err-learn_atom.ensures.learned)

@@ -77,6 +77,7 @@ impl System for Positions<'_> {
         MOST * self.rules.len()
     }
 
+    // Past the items where there is no occurrence: a step that leads to none of them is never taken.
     fn target(&self, s: usize) -> usize {
         self.rules
             .get(s / MOST)

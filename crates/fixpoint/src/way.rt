@@ -37,7 +37,7 @@ fn step_back<Y: System>(system: &Y, rounds: &Rounds, to: usize, round: Round) ->
 }
 
 /// Writes a way from a first item to `goal` into the front of `out`, one item of each round, and answers how many they are. None, with nothing written, if the goal is not found, if there is no room, or if it is found only by a step from several items.
-// Each call is for another item, one round earlier, so calls nest at most 1,024 deep.
+// Each call is for another item, one round earlier, so calls nest at most 1,024 deep. The buffer is lent, and what lies behind the answer stays.
 pub fn way_back<Y: System>(
     system: &Y,
     rounds: &Rounds,

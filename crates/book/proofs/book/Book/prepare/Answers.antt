@@ -28,7 +28,7 @@ pub returns-in_err-written : goal.returns-in_err-written
 returns-in_err-written c =
     let e = c.in_err-written.field-0.0 in
     let p = err_from_is_err_and c.from_residual.result c.from_residual.ensures.1 in
-    rw (p.1, p.2) (turned_line (c.args.self.now) c.args.line.now e.question e.place c.in_err-written.ensures.read)
+    rw (p.1, p.2) (turned_line c.args.self.now c.args.line.now e.question e.place c.in_err-written.ensures.read)
 
 pub returns-in_err-check_label : goal.returns-in_err-check_label
 returns-in_err-check_label c =
@@ -92,13 +92,13 @@ returns-in_err-learning c =
     let (_, passes, writes) = c.in_ok-written.ensures.read in
     let r = c.from_residual-in_err-learning in
     let p = err_from_is_err_and r.result r.ensures.1 in
-    rw (p.1, p.2) (turned_wrong (c.args.self.now) c.args.line.now c.in_ok-written.written passes writes c.in_ok-check_label.ensures c.self.inside.known (ap (λ (x : plain.Book). x.known) c.self.view_is) c.in_err-learning.field-0.0 c.in_err-learning.ensures)
+    rw (p.1, p.2) (turned_wrong c.args.self.now c.args.line.now c.in_ok-written.written passes writes c.in_ok-check_label.ensures c.self.inside.known (ap (λ (x : plain.Book). x.known) c.self.view_is) c.in_err-learning.field-0.0 c.in_err-learning.ensures)
 
 pub returns-in-Some : goal.returns-in-Some
 returns-in-Some c =
     let (_, passes, writes) = c.in_ok-written.ensures.read in
     rw (c.at.ensures.question, c.at.ensures.place)
-    (turned_many (c.args.self.now) c.args.line.now c.in_ok-written.written passes writes c.in_ok-check_label.ensures c.self.inside.known (ap (λ (x : plain.Book). x.known) c.self.view_is) c.in_ok-learning.learning c.in_ok-learning.ensures c.in-Some.place c.in-Some.is)
+    (turned_many c.args.self.now c.args.line.now c.in_ok-written.written passes writes c.in_ok-check_label.ensures c.self.inside.known (ap (λ (x : plain.Book). x.known) c.self.view_is) c.in_ok-learning.learning c.in_ok-learning.ensures c.in-Some.place c.in-Some.is)
 
 pub returns-then-len-ge-RULES : goal.returns-then-len-ge-RULES
 returns-then-len-ge-RULES c =
@@ -108,12 +108,12 @@ returns-then-len-ge-RULES c =
     let (_, passes, writes) = c.in_ok-written.ensures.read in
     let many = c.if-len-ge-RULES.true in
     rw (c.at-then-len-ge-RULES.ensures.question, c.at-then-len-ge-RULES.ensures.place)
-    (turned_full (b) c.args.line.now c.in_ok-written.written passes writes c.in_ok-check_label.ensures c.self.inside.known (ap (λ (x : plain.Book). x.known) c.self.view_is) c.in_ok-learning.learning c.in_ok-learning.ensures c.in_default.is (omega (arith, c.len.ensures, xs.ok.0, length-map (vec_items xs) plain_entry)))
+    (turned_full b c.args.line.now c.in_ok-written.written passes writes c.in_ok-check_label.ensures c.self.inside.known (ap (λ (x : plain.Book). x.known) c.self.view_is) c.in_ok-learning.learning c.in_ok-learning.ensures c.in_default.is (omega (arith, c.len.ensures, xs.ok.0, length-map (vec_items xs) plain_entry)))
 
 pub unwrap-rule-requires : goal.unwrap-rule-requires
 unwrap-rule-requires c =
     let (_, passes, writes) = c.in_ok-written.ensures.read in
-    there_is (c.args.self.now) c.args.line.now c.in_ok-written.written passes writes c.in_ok-check_label.ensures c.self.inside.known (ap (λ (x : plain.Book). x.known) c.self.view_is) c.in_ok-learning.learning c.in_ok-learning.ensures c.in_default.is c.number_rule.result c.number_rule.ensures
+    there_is c.args.self.now c.args.line.now c.in_ok-written.written passes writes c.in_ok-check_label.ensures c.self.inside.known (ap (λ (x : plain.Book). x.known) c.self.view_is) c.in_ok-learning.learning c.in_ok-learning.ensures c.in_default.is c.number_rule.result c.number_rule.ensures
 
 pub returns : goal.returns
 returns c =
@@ -123,6 +123,6 @@ returns c =
     let rule = c.in_ok-written.written in
     let l = c.in_ok-learning.learning in
     let (_, passes, writes) = c.in_ok-written.ensures.read in
-    prepared (b) c.args.line.now rule passes writes c.in_ok-check_label.ensures c.self.inside.known (ap (λ (x : plain.Book). x.known) c.self.view_is) l c.in_ok-learning.ensures c.in_default.is c.unwrap-rule.result
+    prepared b c.args.line.now rule passes writes c.in_ok-check_label.ensures c.self.inside.known (ap (λ (x : plain.Book). x.known) c.self.view_is) l c.in_ok-learning.ensures c.in_default.is c.unwrap-rule.result
     (omega (arith, c.len.ensures, c.if-len-ge-RULES.false, xs.ok.0, length-map (vec_items xs) plain_entry))
     (subst (λ (r : Option Rule). RuleNumbered (predicates_of l.known) rule.label.text.now (side_of rule.body) (side_of rule.head) r) c.unwrap-rule.ensures c.number_rule.ensures)

@@ -20,7 +20,7 @@ use Rattle.theory.proofs.Positions.{positions_has, positions_only, positions_som
 
 module _ (rules : List Rule) (n : ℕ) (long : n ≡ 16 * length rules) (small : (i : ℕ) (r : Rule) → At rules i r → SmallSide r.body × SmallSide r.head) where
   abbrev Reached : ℕ → Type 0
-  Reached p = Derived 128 (FirstOf rules) (Step n (needs_of rules) (leads_of rules)) p
+  Reached p = Derived 128 (FirstOf rules) (Step (record { count = n; needs = needs_of rules; leads = leads_of rules })) p
 
   is_some : (o : Option (ℕ × ℕ)) (v p : ℕ) → Is o v p → o ≡ Some (v, p)
   is_some None v p h = absurd h
@@ -82,7 +82,7 @@ module _ (rules : List Rule) (n : ℕ) (long : n ≡ 16 * length rules) (small :
   affected_within {p} (affected_through i v (r, here, front, t) before) = stands_small r.head v p (small i r here).1 t
 
 -- the table of the rounds
-pub affections : (rules : List memory.Rule) (rounds : List ℕ) (table : List Bool) → Found 128 (FirstOf (map plain_rule rules)) (Step (16 * length rules) (needs_of (map plain_rule rules)) (leads_of (map plain_rule rules))) rounds
+pub affections : (rules : List memory.Rule) (rounds : List ℕ) (table : List Bool) → Found 128 (FirstOf (map plain_rule rules)) (Step (record { count = 16 * length rules; needs = needs_of (map plain_rule rules); leads = leads_of (map plain_rule rules) })) rounds
     → length table ≡ 128 → ((k : ℕ) → k < 128 → Decides (get_or table k false) (0 < get_or rounds k 0)) → Affections (map plain_rule rules) table
 affections rules rounds table found long each = record {
   long = long;

@@ -59,11 +59,7 @@ impl System for Positions<'_> {
 
     ghost first = { λ y p. FirstOf (map plain_rule y.rules.now) p };
 
-    ghost count = { λ y. 16 * length y.rules.now };
-
-    ghost needs = { λ y s. needs_of (map plain_rule y.rules.now) s };
-
-    ghost leads = { λ y s. leads_of (map plain_rule y.rules.now) s };
+    ghost numbered = { λ y. let rules = map plain_rule y.rules.now in record { count = 16 * length y.rules.now; needs = needs_of rules; leads = leads_of rules } };
 
     fn items(&self) -> usize {
         POSITIONS

@@ -6,7 +6,7 @@ use Rattle.lists.specs.Places.{At, Once}
 use Rattle.lists.proofs.Fronts.{front_set}
 use Rattle.lists.proofs.Numbered.{at_below, at_same, at_next, at_snoc}
 use Rattle.fixpoint.specs.Least.{FoundBy, Follows, Found}
-use Rattle.fixpoint.specs.Steps.{Step}
+use Rattle.fixpoint.specs.Steps.{Numbered, Step}
 use Rattle.fixpoint.specs.Ways.{Way, Climbs, Several}
 use Rattle.fixpoint.proofs.Items.{inside}
 
@@ -100,11 +100,11 @@ one_item (a ∷ []) p l = refl
 one_item (a ∷ b ∷ ps) p l = absurd (omega arith)
 
 -- the item of a round above 1 follows from one item of the round before, or a step needs several
-pub no_back : {n m : ℕ} {first : ℕ → Type 0} {needs : ℕ → List ℕ} {leads : ℕ → ℕ} {rounds : List ℕ} → Found n first (Step m needs leads) rounds
-    → (k b : ℕ) → 0 < k → get_or rounds b 0 ≡ k + 1 → ((a : ℕ) → Step m needs leads (a ∷ []) b → get_or rounds a 0 ≡ k → ⊥) → Several (Step m needs leads)
-no_back {n} {m} {first} {needs} {leads} {rounds} f k b p e none = cases (cases_lt 1 (length ps))
+pub no_back : {n : ℕ} {first : ℕ → Type 0} {steps : Numbered} {rounds : List ℕ} → Found n first (Step steps) rounds
+    → (k b : ℕ) → 0 < k → get_or rounds b 0 ≡ k + 1 → ((a : ℕ) → Step steps (a ∷ []) b → get_or rounds a 0 ≡ k → ⊥) → Several (Step steps)
+no_back {n} {first} {steps} {rounds} f k b p e none = cases (cases_lt 1 (length ps))
   where
-    follows : Follows (Step m needs leads) rounds k b
+    follows : Follows (Step steps) rounds k b
     follows = f.later b k p e
 
     ps : List ℕ
@@ -125,6 +125,6 @@ no_back {n} {m} {first} {needs} {leads} {rounds} f k b p e none = cases (cases_l
     soon : length ps ≤ 1 → FoundBy rounds (get_or rounds a 0 + 1) b
     soon l = f.soonest b (get_or rounds a 0) (inside rounds n f.outside b (omega arith)) by.0 (ps, follows.1, λ j h. let z : 0 ≡ j = omega arith in subst (λ i. FoundBy rounds (get_or rounds a 0) (get_or ps i 0)) z (by.0, omega arith))
 
-    cases : (1 < length ps) ⊎ (length ps ≤ 1) → Several (Step m needs leads)
+    cases : (1 < length ps) ⊎ (length ps ≤ 1) → Several (Step steps)
     cases (inl l) = (ps, b, follows.1, l)
-    cases (inr l) = absurd (none a (subst (λ qs. Step m needs leads qs b) (alone l) follows.1) (omega (arith, by.1, (soon l).1)))
+    cases (inr l) = absurd (none a (subst (λ qs. Step steps qs b) (alone l) follows.1) (omega (arith, by.1, (soon l).1)))

@@ -1,10 +1,18 @@
--- Steps that are numbered: step s leads from the items `needs s` to the item `leads s`.
+-- Steps that are numbered.
 use Rattle.std.specs.Prelude.{◌≡◌, ℕ, ◌<◌, List, [], ◌∷◌, length, Some, None, Option, ◌≢◌}
 use Rattle.fixpoint.specs.Least.{Held}
 
--- one of the steps below m leads from ps, one or more, to i
-abbrev pub Step : ℕ → (ℕ → List ℕ) → (ℕ → ℕ) → List ℕ → ℕ → Type 0
-Step m needs leads ps i = (s : ℕ) × (s < m) × (needs s ≡ ps) × (leads s ≡ i) × (0 < length ps)
+pub record Numbered : Type 0 where
+  -- how many steps there are
+  pub count : ℕ
+  -- the items that a step waits for
+  pub needs : ℕ → List ℕ
+  -- the item that a step leads to
+  pub leads : ℕ → ℕ
+
+-- one of the steps leads from ps, one or more, to i
+abbrev pub Step : Numbered → List ℕ → ℕ → Type 0
+Step steps ps i = (s : ℕ) × (s < steps.count) × (steps.needs s ≡ ps) × (steps.leads s ≡ i) × (0 < length ps)
 
 -- there are items to step from, and each has a round from 1 to r
 abbrev pub Ready : List ℕ → ℕ → List ℕ → Type 0

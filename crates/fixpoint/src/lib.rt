@@ -4,7 +4,7 @@
 ghost use Rattle.std.specs.Prelude.{◌≡◌, ℕ, ◌<◌, ◌≤◌, List, Decides, slice_index};
 ghost use Rattle.fixpoint.specs.Least.{Found, Determined};
 ghost use Rattle.fixpoint.specs.Growing.{Begun, Grown};
-ghost use Rattle.fixpoint.specs.Steps.{Step, Ready, Single};
+ghost use Rattle.fixpoint.specs.Steps.{Numbered, Step, Ready, Single};
 ghost use Rattle.fixpoint.specs.Ways.{Ordered, Grounded};
 
 mod order;
@@ -29,14 +29,8 @@ pub trait System {
     // the item is there from the start
     ghost first: { Self → ℕ → Type 0 };
 
-    // how many steps there are
-    ghost count: { Self → ℕ };
-
-    // the items that a step waits for
-    ghost needs: { Self → ℕ → List ℕ };
-
-    // the item that a step leads to
-    ghost leads: { Self → ℕ → ℕ };
+    // the steps: how many there are, what each waits for and where it leads
+    ghost numbered: { Self → Numbered };
 
     // The number of items: at most as many as a table has places.
     fn items(&self) -> usize
@@ -49,19 +43,19 @@ pub trait System {
 
     // The number of steps.
     fn steps(&self) -> usize
-        ensures { result ≡ count self.now };
+        ensures { result ≡ (numbered self.now).count };
 
     // Where a step leads.
     fn target(&self, s: usize) -> usize
-        ensures { s < count self.now → result ≡ leads self.now s };
+        ensures { s < (numbered self.now).count → result ≡ (numbered self.now).leads s };
 
     // Whether all that a step waits for is reached.
     fn ready(&self, s: usize, reached: Reached<'_>) -> bool
-        ensures { s < count self.now → Decides result (Ready reached.entry.rounds.now reached.entry.before (needs self.now s)) };
+        ensures { s < (numbered self.now).count → Decides result (Ready reached.entry.rounds.now reached.entry.before ((numbered self.now).needs s)) };
 
     // The one item that a step waits for; none if it waits for none or several.
     fn single(&self, s: usize) -> Option<usize>
-        ensures { s < count self.now → Single (needs self.now s) result };
+        ensures { s < (numbered self.now).count → Single ((numbered self.now).needs s) result };
 }
 
 /// The round of an item; 0 if it has no place in the table.
@@ -88,7 +82,7 @@ fn begin<Y: System>(system: &Y) -> Rounds
 /// Looks at each step once: an item that follows from those found by the round `before` is found in the next. Whether there is one.
 fn grow<Y: System>(system: &Y, rounds: &mut Rounds, before: Round) -> bool
     requires { before ≤ 1025 }
-    ensures { Grown (Y.size system.now) (Step (Y.count system.now) (Y.needs system.now) (Y.leads system.now)) rounds.old rounds.new before result }
+    ensures { Grown (Y.size system.now) (Step (Y.numbered system.now)) rounds.old rounds.new before result }
 {
     let n = system.items();
     let mut grew = false;
@@ -105,9 +99,9 @@ fn grow<Y: System>(system: &Y, rounds: &mut Rounds, before: Round) -> bool
 
 /// The round in which each item is found: a step is looked at once a round, until a round finds nothing.
 pub fn search<Y: System>(system: &Y) -> Rounds
-    ensures found { Found (Y.size system.now) (Y.first system.now) (Step (Y.count system.now) (Y.needs system.now) (Y.leads system.now)) result }
-    ensures determined { Determined (Y.size system.now) (Y.first system.now) (Step (Y.count system.now) (Y.needs system.now) (Y.leads system.now)) }
-    ensures grounded { (items : List ℕ) → Ordered result items → Grounded (Y.first system.now) (Step (Y.count system.now) (Y.needs system.now) (Y.leads system.now)) items }
+    ensures found { Found (Y.size system.now) (Y.first system.now) (Step (Y.numbered system.now)) result }
+    ensures determined { Determined (Y.size system.now) (Y.first system.now) (Step (Y.numbered system.now)) }
+    ensures grounded { (items : List ℕ) → Ordered result items → Grounded (Y.first system.now) (Step (Y.numbered system.now)) items }
 {
     let mut rounds = begin(system);
     let mut before: Round = 1;

@@ -14,7 +14,7 @@ fn step_from<Y: System>(
     to: usize,
     round: Round,
 ) -> Option<usize>
-    ensures { s < Y.count system.now → MatchOption result ((a : ℕ) → Y.needs system.now s ≡ (a ∷ []) → Y.leads system.now s ≡ to → slice_index rounds.now a ≢ round) (λ a. (Y.needs system.now s ≡ (a ∷ [])) × (Y.leads system.now s ≡ to) × (slice_index rounds.now a ≡ round)) }
+    ensures { s < (Y.numbered system.now).count → MatchOption result ((a : ℕ) → (Y.numbered system.now).needs s ≡ (a ∷ []) → (Y.numbered system.now).leads s ≡ to → slice_index rounds.now a ≢ round) (λ a. ((Y.numbered system.now).needs s ≡ (a ∷ [])) × ((Y.numbered system.now).leads s ≡ to) × (slice_index rounds.now a ≡ round)) }
 {
     if system.target(s) != to {
         return None;
@@ -26,7 +26,7 @@ fn step_from<Y: System>(
 
 /// An item of the round `round` from which alone a step leads to `to`.
 fn step_back<Y: System>(system: &Y, rounds: &Rounds, to: usize, round: Round) -> Option<usize>
-    ensures { MatchOption result ((a : ℕ) → Step (Y.count system.now) (Y.needs system.now) (Y.leads system.now) (a ∷ []) to → slice_index rounds.now a ≢ round) (λ a. Step (Y.count system.now) (Y.needs system.now) (Y.leads system.now) (a ∷ []) to × (slice_index rounds.now a ≡ round)) }
+    ensures { MatchOption result ((a : ℕ) → Step (Y.numbered system.now) (a ∷ []) to → slice_index rounds.now a ≢ round) (λ a. Step (Y.numbered system.now) (a ∷ []) to × (slice_index rounds.now a ≡ round)) }
 {
     for s in 0..system.steps() {
         if let Some(item) = step_from(system, rounds, s, to, round) {
@@ -45,7 +45,7 @@ pub fn way_back<Y: System>(
     out: &mut [u16],
 ) -> Option<usize>
     ensures many { IfSome result (λ n. (n ≡ slice_index rounds.now goal) × (n ≤ length out.old)) }
-    ensures way { Found (Y.size system.now) (Y.first system.now) (Step (Y.count system.now) (Y.needs system.now) (Y.leads system.now)) rounds.now → MatchOption result (NoWay (Y.size system.now) (Y.first system.now) (Step (Y.count system.now) (Y.needs system.now) (Y.leads system.now)) rounds.now goal (length out.old)) (λ n. Way (Y.size system.now) (Y.first system.now) (Step (Y.count system.now) (Y.needs system.now) (Y.leads system.now)) goal (take n out.new) × Climbs rounds.now (take n out.new)) }
+    ensures way { Found (Y.size system.now) (Y.first system.now) (Step (Y.numbered system.now)) rounds.now → MatchOption result (NoWay (Y.size system.now) (Y.first system.now) (Step (Y.numbered system.now)) rounds.now goal (length out.old)) (λ n. Way (Y.size system.now) (Y.first system.now) (Step (Y.numbered system.now)) goal (take n out.new) × Climbs rounds.now (take n out.new)) }
     ensures rest { Rest out.old out.new result }
 {
     let round = round_of(rounds, goal);

@@ -21,7 +21,7 @@ use Rattle.ranks.proofs.Sources.{source_edge, source_some}
 module _ (table : List (Option Edge)) (best : List ℕ) where
   -- the search's least set
   abbrev Behind : ℕ → Type 0
-  Behind = Derived 128 (Tense table best) (steps.Step 16384 (source table) (λ k. k % 128))
+  Behind = Derived 128 (Tense table best) (steps.Step (record { count = 16384; needs = source table; leads = λ k. k % 128 }))
 
   -- an entry with an edge is the step from its row to its column
   entry_at : (k : ℕ) (edge : Edge) → k < 16384 → get_or table k None ≡ Some edge → (s : Step) × TableStep table s × (s.from ≡ k / 128) × (s.to ≡ k % 128)
@@ -78,7 +78,7 @@ module _ (table : List (Option Edge)) (best : List ℕ) where
           go (inr l) = l
 
 module _ (table : List (Option Edge)) (best rounds : List ℕ) (attained : Attained (TableStep table) (number best)) (covers : Covers (TableStep table) 127 (number best))
-    (found : Found 128 (Tense table best) (steps.Step 16384 (source table) (λ k. k % 128)) rounds) where
+    (found : Found 128 (Tense table best) (steps.Step (record { count = 16384; needs = source table; leads = λ k. k % 128 })) rounds) where
   infinite_found : (p : ℕ) → (get_or rounds p 0 ≡ 0 → ⊥) → Ranked (TableStep table) p Infinite
   infinite_found p some = behind_infinite table best attained covers p (found.sound p (omega arith))
 

@@ -19,11 +19,7 @@ impl System for Unsettled<'_> {
 
     ghost first = { λ s i. Tense s.table.now s.best.now i };
 
-    ghost count = { λ s. 16384 };
-
-    ghost needs = { λ s k. source s.table.now k };
-
-    ghost leads = { λ s k. k % 128 };
+    ghost numbered = { λ s. record { count = 16384; needs = source s.table.now; leads = λ k. k % 128 } };
 
     fn items(&self) -> usize {
         POSITIONS

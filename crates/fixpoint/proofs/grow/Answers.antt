@@ -8,7 +8,7 @@ pub loop-s-preserved : goal.loop-s-preserved
 loop-s-preserved g c =
     let to = c.target-to.result in
     let n = c.items-n.result in
-    let inside : c.loop-s.s < g.Y.System.count c.args.system.now = rw (← c.steps-s-end.ensures) c.loop-s-test.true in
+    let inside : c.loop-s.s < (g.Y.System.numbered c.args.system.now).count = rw (← c.steps-s-end.ensures) c.loop-s-test.true in
     let leads = c.target-to.ensures inside in
     let fresh : c.if-to-n.fresh ≡ true → (to < n) × (get_or c.loop-s.rounds to 0 ≡ 0) = elim c.if-to-n.branch [
       | then-to-n w ↦ λ e. (w.if-to-n.true, eqb-true _ _ (sym w.fresh-is ∙ e))
@@ -21,7 +21,7 @@ loop-s-preserved g c =
     elim c.if-fresh.branch [
       | then-fresh+then-ready w ↦
           let (l, zero) = fresh w.if-fresh.true in
-          rw (w.rounds-is, w.grew-is) (growing_set c.loop-s.invariant to leads c.loop-s-test.true l c.items-n.ensures.few zero ((w.ready.ensures inside).0 w.if-ready.true))
+          rw (w.rounds-is, w.grew-is) (growing_set c.loop-s.invariant to leads inside l c.items-n.ensures.few zero ((w.ready.ensures inside).0 w.if-ready.true))
       | else-fresh w ↦
           rw (w.rounds-is, w.grew-is) (
           growing_skip c.loop-s.invariant (

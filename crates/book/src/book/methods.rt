@@ -1,5 +1,5 @@
 // A new book, reading it, and withdrawing a rule.
-ghost use Rattle.std.specs.Prelude.{◌≡◌, ◌+◌, ◌<◌, ◌++◌, map, length, take, drop, IfOk, vec_len, vec_capacity};
+ghost use Rattle.std.specs.Prelude.{◌≡◌, map, length, IfOk};
 ghost use Rattle.naming.specs.Names.{Gets};
 ghost use Rattle.book.specs.Book.{empty, Sound};
 ghost use Rattle.book.specs.Changing.{Withdrawn};

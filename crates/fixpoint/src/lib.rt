@@ -18,7 +18,7 @@ pub use way::way_back;
 /// The number of a round: 1 for the first items.
 pub type Round = u64;
 
-/// The round of each item. What is not found has 0 and no `None`: the table's format is given, numbers with 0 outside.
+/// The round of each item. What is not found has 0 and no `None`: a table is handed out as numbers, with 0 outside, and in the definitions.
 pub type Rounds = [Round; 1024];
 
 /// Items, of which some are first, and numbered steps, each from one or more items to one.
@@ -45,7 +45,7 @@ pub trait System {
     fn steps(&self) -> usize
         ensures { result ≡ (numbered self.now).count };
 
-    // Where a step leads.
+    // Where a step leads; past the items if to none of them. No `Option`: a step to no item is never taken, and asks for no case of its own.
     fn target(&self, s: usize) -> usize
         ensures { s < (numbered self.now).count → result ≡ (numbered self.now).leads s };
 

@@ -28,6 +28,7 @@ fn step_from<Y: System>(
 fn step_back<Y: System>(system: &Y, rounds: &Rounds, to: usize, round: Round) -> Option<usize>
     ensures { MatchOption result ((a : ℕ) → Step (Y.numbered system.now) (a ∷ []) to → slice_index rounds.now a ≢ round) (λ a. Step (Y.numbered system.now) (a ∷ []) to × (slice_index rounds.now a ≡ round)) }
 {
+    // With `find_map` the goal on the closure did not close.
     for s in 0..system.steps() {
         if let Some(item) = step_from(system, rounds, s, to, round) {
             return Some(item);
@@ -56,6 +57,7 @@ pub fn way_back<Y: System>(
         let before = step_back(system, rounds, goal, round - 1)?;
         way_back(system, rounds, before, out)?;
     }
+    // It fits, as is proved; `try_from` would say it at more length.
     out[round as usize - 1] = goal as u16;
     Some(round as usize)
 }

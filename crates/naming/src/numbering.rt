@@ -47,6 +47,7 @@ fn number_atom<'a>(
 {
     let predicate = predicate_number(atom, known)?;
     let numbers = number_words(atom.words(), variables).ok()?;
+    // It fits, as is proved; `try_from` would say it at more length.
     Atom::new(predicate as u8, numbers.as_slice())
 }
 

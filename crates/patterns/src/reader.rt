@@ -12,7 +12,7 @@ mod feeding;
 // The words of a line in their tables.
 #[derive(Clone, Copy, Debug)]
 pub struct Tables<'a> {
-    // of a fact line: of no meaning
+    // of a fact line: of no meaning, and handed to nobody
     pub label: Word<'a>,
     pub body: Side<'a>,
     pub head: Side<'a>,
@@ -36,6 +36,7 @@ impl<'a> Tables<'a> {
                 self.label = word;
                 Ok(())
             }
+            // A match within each: of alternatives in one pattern the check does not say which it was.
             State::Name(part) => match part {
                 Section::Head => self.head.begin(word),
                 Section::Body | Section::Fact => self.body.begin(word),

@@ -12,6 +12,7 @@ const ROUNDS: usize = POSITIONS - 1;
 
 pub(crate) type Numbers = [u16; POSITIONS];
 
+// The table and the numbers go side by side and not as one value: a round makes new numbers for the same table.
 // The number that the edge from one position gives the other, if there is an edge.
 fn offer(table: &Table, best: &Numbers, from: usize, to: usize) -> Option<u32>
     requires from { from < 128 }
@@ -37,6 +38,7 @@ fn round(table: &Table, best: &Numbers) -> Numbers
     requires { (p : ℕ) → number best.now p < 65535 }
     ensures { Round table.now best.now result }
 {
+    // It fits, as is proved; `try_from` would say it at more length.
     array::from_fn(|to| relax(table, best, to) as u16)
 }
 

@@ -1,4 +1,6 @@
 // A word of at most eight bytes, kept by value.
+ghost use Rattle.std.specs.Prelude.{◌≤◌, length};
+
 mod methods;
 
 use bounded::Bounded;
@@ -9,4 +11,5 @@ const MOST: usize = 8;
 #[derive(Clone, Copy)]
 pub struct Name {
     bytes: Bounded<u8, MOST>,
+    ghost few: { length bytes.items ≤ 8 },
 }

@@ -36,7 +36,7 @@ pub fn first_stray(line: &[u8]) -> Option<usize>
     let mut stray = None;
     // What lies before it belongs to a mark that was passed whole.
     let mut due = 0;
-    // By number, since a place is what is told, and a mark is passed whole.
+    // By place, since a mark is passed whole: what counts is the place and not the byte that stands there.
     for i in 0..line.len() {
         if due <= i {
             match reach(line, i) {

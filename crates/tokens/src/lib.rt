@@ -18,7 +18,7 @@ fn is_word_byte(b: u8) -> bool
     b.is_ascii_alphanumeric() || b == b'_'
 }
 
-// The one place where a part of a line is taken, so that its place in memory is stated once.
+// Where a part of a line is taken to be handed out, so that its place in memory is stated once.
 fn part<'a>(line: &'a [u8], from: usize, to: usize) -> &'a [u8]
     requires { (from ≤ to) × (to ≤ length line.now) }
     ensures { Part line.entry result from (to - from) }
@@ -42,6 +42,7 @@ fn run_end(line: &[u8], from: usize) -> usize
     from + word_length(&line[from..])
 }
 
+// Two functions for two marks: one over a mark would say in its contract what each says by its kind. The line is passed whole, since places are counted in it.
 fn is_arrow(line: &[u8], at: usize) -> bool
     requires { at < length line.now }
     ensures { Decides result (Lies line.now at (at + 2) arrow) }

@@ -13,7 +13,7 @@ fn begins_word(line: &[u8], place: usize) -> bool
     place == 0 || !is_word_byte(line[place - 1])
 }
 
-// The word that begins at `place`, or, if none begins there, the empty part at the line's end.
+// The word that begins at `place`, or, if none begins there, the empty part at the line's end: a call of the product, which answers so and not by an `Option`.
 pub fn word<'a>(line: &'a [u8], place: usize) -> &'a [u8]
     ensures { WordAt line.entry result place }
 {

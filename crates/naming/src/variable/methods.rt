@@ -24,7 +24,7 @@ impl<'a> Variables<'a> {
             .position(|known| *known == text)
     }
 
-    // The number of the variable of this text, which is a new one if there was none; or there are 32 others.
+    // The number of the variable of this text, which is a new one if there was none; or there are 32 others. It fits a byte, as is proved; `try_from` would say it at more length.
     pub fn number(&mut self, text: &'a [u8]) -> Result<u8, Full>
         ensures { Numbered (names_of self.old) text.now (names_of self.new) result }
     {

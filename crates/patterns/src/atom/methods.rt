@@ -79,7 +79,7 @@ impl<'a> Side<'a> {
             return Ok(());
         };
         let added = last.push(word);
-        // It goes back to where it was.
+        // It goes back to where it was; a loan of the last one would need a proof by hand.
         self.atoms.push(last)?;
         added
     }

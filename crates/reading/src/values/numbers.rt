@@ -10,7 +10,7 @@ use questions::question::{Question, Refusal};
 
 const GREATEST: u32 = 32_767;
 
-// The number that the bytes spell. It is given up as soon as it is too large, so that nothing overflows.
+// The number that the bytes spell. It is given up as soon as it is too large, so that nothing overflows. Not `parse`, which takes a leading plus.
 fn decimal(text: &[u8]) -> Option<u16>
     ensures { MatchOption result (GoodNumber text.now → ⊥) (λ n. Number text.now n) }
 {
@@ -26,6 +26,7 @@ fn decimal(text: &[u8]) -> Option<u16>
         if next > GREATEST {
             return None;
         }
+        // It fits, as is proved; `try_from` would say it at more length.
         n = next as u16;
     }
     Some(n)

@@ -18,7 +18,7 @@ pub use way::way_back;
 /// The number of a round: 1 for the first items.
 pub type Round = u64;
 
-/// The round of each item. What is not found has 0 and no `None`: a table is handed out as numbers, with 0 outside, and in the definitions.
+/// The round of each item. What is not found has 0 and not `None`: in the definitions too a round is a number, and 0 lies outside.
 pub type Rounds = [Round; 1024];
 
 /// Items, of which some are first, and numbered steps, each from one or more items to one.

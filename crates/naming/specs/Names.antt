@@ -39,7 +39,7 @@ abbrev pub FindsWord : List (List ℕ) → List ℕ → Option ℕ → Type 0
 FindsWord names text None = Holds names text → ⊥
 FindsWord names text (Some i) = FirstAt names i text
 
--- the text has this number among the names, to which it is joined; or there were 32
+-- the text has this number among the names, to which it is joined; or there were 32, and nothing changes
 abbrev pub Numbered : List (List ℕ) → List ℕ → List (List ℕ) → Result ℕ Full → Type 0
 Numbered before text after (Ok n) = Joined before (text ∷ []) after × FirstAt after n text
-Numbered before text after (Err e) = 32 ≤ length before
+Numbered before text after (Err e) = (32 ≤ length before) × (after ≡ before)

@@ -12,7 +12,7 @@ mod feeding;
 // The words of a line in their tables.
 #[derive(Clone, Copy, Debug)]
 pub struct Tables<'a> {
-    // of a fact line: of no meaning, and handed to nobody
+    // of a fact line a filler, of no meaning; no line that is read has it
     pub label: Word<'a>,
     pub body: Side<'a>,
     pub head: Side<'a>,

@@ -10,9 +10,9 @@ use std::array;
 // A simple walk has fewer steps than there are positions.
 const ROUNDS: usize = POSITIONS - 1;
 
+// They go beside the table and not as one value with it: a round makes new numbers for the same table.
 pub(crate) type Numbers = [u16; POSITIONS];
 
-// The table and the numbers go side by side and not as one value: a round makes new numbers for the same table.
 // The number that the edge from one position gives the other, if there is an edge.
 fn offer(table: &Table, best: &Numbers, from: usize, to: usize) -> Option<u32>
     requires from { from < 128 }

@@ -9,7 +9,7 @@ use crate::token::{Token, Word};
 use crate::{is_arrow, is_bars, is_word_byte, part, run_end};
 use questions::question::{Question, Refusal};
 
-// How many of the bytes, from the first on, are blanks. Not one function with `word_length` over a test: it would say in a contract what the chain says in a line.
+// How many of the bytes, from the first on, are blanks. Not one function with `word_length` over a test: its contract would be longer than both chains.
 fn blanks(bytes: &[u8]) -> usize
     ensures count { result ≡ prefix_len (λ b. b == 32) bytes.now }
     ensures fits { result ≤ length bytes.now }

@@ -42,7 +42,7 @@ fn run_end(line: &[u8], from: usize) -> usize
     from + word_length(&line[from..])
 }
 
-// Two functions for two marks: one over a mark would say in its contract what each says by its kind. The line is passed whole, since places are counted in it.
+// Whether the mark begins at the place; the line is passed whole, since places are counted in it. Two functions for two marks, since their contracts speak of two kinds of token.
 fn is_arrow(line: &[u8], at: usize) -> bool
     requires { at < length line.now }
     ensures { Decides result (Lies line.now at (at + 2) arrow) }

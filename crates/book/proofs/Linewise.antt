@@ -1,5 +1,5 @@
 -- Learning the atoms of a line one by one.
-use Rattle.std.proofs.Common.{◌≡◌, ℕ, ◌+◌, ◌<◌, ◌≤◌, List, [], ◌∷◌, ◌++◌, map, length, get_or, take, None, Err, sym, refl, ap, ◌∙◌, subst}
+use Rattle.std.proofs.Common.{◌≡◌, ℕ, ◌+◌, ◌<◌, List, [], ◌∷◌, ◌++◌, map, length, get_or, take, Err, sym, ap, ◌∙◌, subst}
 use Rattle.std.proofs.lemmas.List.{take_more, map-append}
 use Rattle.lists.specs.Places.{At}
 use Rattle.lists.proofs.Elements.{take_map}
@@ -9,8 +9,6 @@ use Rattle.patterns.specs.Patterns.{Written}
 use Rattle.patterns.specs.Tables.{written}
 use Rattle.patterns.specs.declared.atom.Atom.{Atom}
 use Rattle.naming.specs.Meaning.{Predicate}
-use Rattle.naming.specs.Names.{predicates_of}
-use Rattle.naming.specs.Numbering.{Distinct}
 use Rattle.book.specs.Learning.{Short, AllShort, Learnt, Clash, AtomLearned, LineLearned}
 use Rattle.book.specs.declared.learning.Learning.{Learning}
 use Rattle.book.proofs.Clashing.{clash_first}
@@ -33,7 +31,3 @@ module _ (body head : List Atom) (k : ℕ) (a : Atom) (turn : (k < length (body 
       let whole = map-append written body head in
       let before = sym (take_map written (body ++ head) k) ∙ ap (take k) whole in
       (k, written a, clash_first known (map written body ++ map written head) k (written a) (subst (λ (xs : List Written). At xs k (written a)) whole here) (subst (λ (xs : List Written). Clash known xs (written a)) before (clash known (map written (take k (body ++ head))) learnt)), q, p)
-
--- nothing of the line is learned yet
-pub learnt_none : (l : Learning) → l.extra ≡ None → Distinct (predicates_of l.known) → length (predicates_of l.known) ≤ 32 → Learnt (predicates_of l.known) [] l
-learnt_none l e apart few = record { joined = refl; names = apart; extra = rw e few }

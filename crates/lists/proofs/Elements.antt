@@ -88,8 +88,3 @@ pub at_behind : {A : Type 0} (xs ys : List A) (k n : ℕ) (y : A) → n ≡ leng
 at_behind [] ys k n y e at = let same : k ≡ n = omega arith in subst (λ (m : ℕ). At ys m y) same at
 at_behind (x ∷ xs) ys k zero y e at = absurd (omega arith)
 at_behind (x ∷ xs) ys k (suc n) y e at = at_behind xs ys k n y (omega arith) at
-
-pub take_behind : {A : Type 0} (xs ys : List A) (k n : ℕ) → n ≡ length xs + k → take n (xs ++ ys) ≡ xs ++ take k ys
-take_behind [] ys k n e = let same : n ≡ k = omega arith in ap (λ (m : ℕ). take m ys) same
-take_behind (x ∷ xs) ys k zero e = absurd (omega arith)
-take_behind (x ∷ xs) ys k (suc n) e = ap (λ (l : List _). x ∷ l) (take_behind xs ys k n (omega arith))

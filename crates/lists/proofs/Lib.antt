@@ -7,4 +7,3 @@ pub mod Leading
 pub mod Mapped
 pub mod Numbered
 pub mod Pigeons
-pub mod Searching

@@ -10,11 +10,6 @@ use Rattle.naming.specs.Numbering.{Distinct}
 use Rattle.book.specs.Asking.{WrongColumns, OneMore}
 use Rattle.book.specs.declared.learning.Learning.{Learning}
 
--- the columns of a known predicate of this name; or there is none
-abbrev pub ColumnsOf : List Predicate → List ℕ → Option ℕ → Type 0
-ColumnsOf known name None = (i : ℕ) (p : Predicate) → At known i p → p.name ≢ name
-ColumnsOf known name (Some n) = (i : ℕ) × (p : Predicate) × At known i p × (p.name ≡ name) × (p.columns ≡ n)
-
 -- the predicate's word has at most 8 bytes
 abbrev pub Short : Written → Type 0
 Short w = length w.predicate.text ≤ 8

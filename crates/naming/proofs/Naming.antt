@@ -14,18 +14,18 @@ use Rattle.naming.specs.Numbering.{Distinct, PredicateNumber}
 pub same_predicate : (p q : Predicate) → p.name ≡ q.name → p.columns ≡ q.columns → p ≡ q
 same_predicate p q e f = ap (λ (x : List ℕ). record { name = x; columns = p.columns }) e ∙ ap (λ (x : ℕ). record { name = q.name; columns = x }) f
 
-module _ (known : List Predicate) (w : Written) (text : List ℕ) (i : ℕ) (p q : Predicate) (first : First (λ x. x.name ≡ text) known i p) (here : At known i q) (spelled : text ≡ w.predicate.text) where
+module _ (known : List Predicate) (w : Written) (text : List ℕ) (i : ℕ) (q : Predicate) (first : First (λ x. x.name ≡ text) known i q) (spelled : text ≡ w.predicate.text) where
   name_is : q.name ≡ w.predicate.text
-  name_is = ap (λ x. x.name) (at_same known i q p here first.here) ∙ first.does ∙ spelled
+  name_is = first.does ∙ spelled
 
   named_first : q.columns ≡ length w.words → FirstAt known i (predicate_of w)
   named_first e =
-      (subst (λ x. At known i x) (same_predicate q (predicate_of w) name_is e) here, λ j l at. first.earlier j (predicate_of w) l at (sym spelled))
+      (subst (λ x. At known i x) (same_predicate q (predicate_of w) name_is e) first.here, λ j l at. first.earlier j (predicate_of w) l at (sym spelled))
 
   named_otherwise : (q.columns ≡ length w.words → ⊥) → Distinct known → Holds known (predicate_of w) → ⊥
   named_otherwise ne apart (j, at) =
-      let e = apart i j q (predicate_of w) here at name_is in
-      ne (ap (λ x. x.columns) (at_same known j q (predicate_of w) (subst (λ k. At known k q) e here) at))
+      let e = apart i j q (predicate_of w) first.here at name_is in
+      ne (ap (λ x. x.columns) (at_same known j q (predicate_of w) (subst (λ k. At known k q) e first.here) at))
 
   tested : (b : Bool) → Decides b (q.columns ≡ length w.words) → PredicateNumber known w (then_some b i)
   tested true d = named_first (d.0 refl)

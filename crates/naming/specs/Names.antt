@@ -25,6 +25,11 @@ abbrev pub Finds : List plain.Predicate → List ℕ → Option ℕ → Type 0
 Finds known name None = (i : ℕ) (p : plain.Predicate) → At known i p → p.name ≢ name
 Finds known name (Some i) = (p : plain.Predicate) × First (λ x. x.name ≡ name) known i p
 
+-- the first predicate of this name, with its number; or there is none
+abbrev pub Named : List plain.Predicate → List ℕ → Option (ℕ × Predicate) → Type 0
+Named known name None = (i : ℕ) (p : plain.Predicate) → At known i p → p.name ≢ name
+Named known name (Some r) = First (λ x. x.name ≡ name) known r.0 (plain_predicate r.1)
+
 -- one predicate more; or, if there were 40, none
 abbrev pub Grows : Predicates → Predicate → Predicates → Result (Unit {0}) Full → Type 0
 Grows t p u (Ok x) = predicates_of u ≡ predicates_of t ++ (plain_predicate p ∷ [])

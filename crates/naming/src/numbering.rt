@@ -19,8 +19,7 @@ const MOST: usize = 4;
 fn predicate_number(atom: &WrittenAtom, known: &Predicates) -> Option<usize>
     ensures { PredicateNumber (predicates_of known.now) (written atom.now) result }
 {
-    let number = known.find(atom.predicate().text)?;
-    let predicate = known.get(number)?;
+    let (number, predicate) = known.named(atom.predicate().text)?;
     (predicate.columns == atom.words().len()).then_some(number)
 }
 

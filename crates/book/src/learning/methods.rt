@@ -3,7 +3,7 @@ ghost use Rattle.std.specs.Prelude.{◌+◌, ◌<◌, ◌≤◌, ◌++◌, lengt
 ghost use Rattle.patterns.specs.Tables.{written, side_of};
 ghost use Rattle.naming.specs.Names.{predicates_of};
 ghost use Rattle.naming.specs.Numbering.{Distinct};
-ghost use Rattle.book.specs.Learning.{ColumnsOf, NewLearned, AtomLearned, Short, AllShort, LineLearned};
+ghost use Rattle.book.specs.Learning.{NewLearned, AtomLearned, Short, AllShort, LineLearned};
 
 use super::Learning;
 use naming::predicate::{Predicate, Predicates};
@@ -15,15 +15,6 @@ use tokens::token::Word;
 
 // The most predicates of a book.
 const PREDICATES: usize = 32;
-
-// The columns of the predicate of this name.
-fn columns_of(known: &Predicates, name: &[u8]) -> Option<usize>
-    ensures { ColumnsOf (predicates_of known.now) name.now result }
-{
-    let number = known.find(name)?;
-    let predicate = known.get(number)?;
-    Some(predicate.columns)
-}
 
 // That there is room and that words are short is asked call by call, in private: how many atoms are still to come no type can say, and an atom by itself may have a long word.
 impl Learning {
@@ -47,8 +38,10 @@ impl Learning {
     {
         let word = atom.predicate();
         let columns = atom.words().len();
-        match columns_of(&self.known, word.text) {
-            Some(known) if known != columns => return Err(Question::Columns.at(word.place)),
+        match self.known.named(word.text) {
+            Some((_, known)) if known.columns != columns => {
+                return Err(Question::Columns.at(word.place));
+            }
             Some(_) => {}
             None => self.learn_new(word, columns),
         }

@@ -1,6 +1,6 @@
 // Finding a predicate by its name, and one predicate more.
 ghost use Rattle.std.specs.Prelude.{◌≡◌, [], length};
-ghost use Rattle.naming.specs.Names.{predicates_of, Gets, Finds, Grows};
+ghost use Rattle.naming.specs.Names.{predicates_of, Gets, Finds, Named, Grows};
 
 use super::{Predicate, Predicates};
 use bounded::{Bounded, Full};
@@ -40,6 +40,15 @@ impl Predicates {
             .as_slice()
             .iter()
             .position(|predicate| predicate.name.is(name))
+    }
+
+    // The predicate of this name, with its number.
+    pub fn named(&self, name: &[u8]) -> Option<(usize, Predicate)>
+        ensures { Named (predicates_of self.now) name.now result }
+    {
+        let number = self.find(name)?;
+        let predicate = self.get(number)?;
+        Some((number, predicate))
     }
 
     // One predicate more, unless there are 40.

@@ -22,9 +22,9 @@ pub returns-else-known-columns-clause-learned : goal.returns-else-known-columns-
 returns-else-known-columns-clause-learned c =
     let a = c.args.atom.now in
     let l = c.args.self.now in
-    let (i, p, at, name, columns) = c.in-Some.ensures in
+    let first = c.in-Some.ensures in
     let spelled = ap (λ (w : Word). w.text.now) c.predicate-word.ensures in
-    learnt_same (written a) l (named_there (written a) (predicates_of l.known) i p at (name ∙ spelled) (columns ∙ c.if-known-columns.false ∙ many a c.words-columns.result.now c.words-columns.ensures.words))
+    learnt_same (written a) l (named_there (written a) (predicates_of l.known) _ _ first.here (first.does ∙ spelled) (c.if-known-columns.false ∙ many a c.words-columns.result.now c.words-columns.ensures.words))
 
 pub returns-in-None-clause-learned : goal.returns-in-None-clause-learned
 returns-in-None-clause-learned c =

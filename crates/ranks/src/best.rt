@@ -13,13 +13,14 @@ const ROUNDS: usize = POSITIONS - 1;
 // They go beside the table and not as one value with it: a round makes new numbers for the same table.
 pub(crate) type Numbers = [u16; POSITIONS];
 
-// The number that the edge from one position gives the other, if there is an edge.
-fn offer(table: &Table, best: &Numbers, from: usize, to: usize) -> Option<u32>
+// The number that the edge from one position gives the other; 0 if there is no edge. The number of the former is read in any case: where the table decides what is read, the loop below is many times slower.
+fn offer(table: &Table, best: &Numbers, from: usize, to: usize) -> u32
     requires from { from < 128 }
     requires to { to < 128 }
     ensures { result ≡ offered table.now best.now to from }
 {
-    table[POSITIONS * from + to].map(|edge| u32::from(best[from]) + edge.adds())
+    let number = u32::from(best[from]);
+    table[POSITIONS * from + to].map_or(0, |edge| number + edge.adds())
 }
 
 // The greatest number that an edge to the position gives it; 0 if there is none.
@@ -28,7 +29,7 @@ pub(crate) fn relax(table: &Table, best: &Numbers, to: usize) -> u32
     ensures { Relaxes table.now best.now 128 to result }
 {
     (0..POSITIONS)
-        .filter_map(|from| offer(table, best, from, to))
+        .map(|from| offer(table, best, from, to))
         .max()
         .unwrap_or(0)
 }

@@ -11,7 +11,7 @@ ghost use Rattle.ranks.specs.declared.rank.Rank.TheVariants as rank;
 use fixpoint::{Round, search};
 use rank::Rank;
 use std::array;
-use table::{POSITIONS, Table};
+use table::{Edges, POSITIONS, Table};
 use unsettled::Unsettled;
 
 mod best;
@@ -31,12 +31,20 @@ fn told(round: Round, number: u16) -> Rank
     }
 }
 
-/// The rank of each position, or that it is infinite; and each place of any finite list of edges is the one or the other.
-pub fn ranks(table: &Table) -> [Rank; POSITIONS]
+// The ranks of a table of edges.
+fn ranks_of(table: &Table) -> [Rank; POSITIONS]
     ensures each { (p : ℕ) → p < 128 → Ranked (TableStep table.now) p (slice_index_or result p rank.Infinite) }
     ensures laws { (edges : List Step) → Finite edges }
 {
     let best = best::best(table);
     let rounds = search(&Unsettled { table, best: &best });
     array::from_fn(|p| told(rounds[p], best[p]))
+}
+
+/// The rank of each position, or that it is infinite; and each place of any finite list of edges is the one or the other.
+pub fn ranks<T: Edges>(table: &T) -> [Rank; POSITIONS]
+    ensures each { (p : ℕ) → p < 128 → Ranked (TableStep (T.edges table.now)) p (slice_index_or result p rank.Infinite) }
+    ensures laws { (edges : List Step) → Finite edges }
+{
+    ranks_of(&table.table())
 }

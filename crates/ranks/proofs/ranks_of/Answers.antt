@@ -5,7 +5,7 @@ use Rattle.ranks.specs.Answers.{Ranked}
 use Rattle.ranks.specs.Tables.{TableStep}
 use Rattle.ranks.specs.declared.rank.Rank.TheVariants.{Number, Infinite}
 use Rattle.ranks.proofs.Behind.{told}
-use Rattle.ranks.proofs.ranks.Goals as goal
+use Rattle.ranks.proofs.ranks_of.Goals as goal
 
 pub returns-clause-each : goal.returns-clause-each
 returns-clause-each c =

@@ -8,7 +8,7 @@ use Rattle.graphs.specs.Walks.{counts}
 use Rattle.ranks.specs.declared.edge.Edge.{Edge}
 use Rattle.ranks.specs.Edges.{adds}
 use Rattle.ranks.specs.Tables.{entry, TableStep}
-use Rattle.ranks.specs.Relaxing.{number, offered, Gives, Relaxes}
+use Rattle.ranks.specs.Relaxing.{number, offered, relaxed, Gives, Relaxes, Round, Tense}
 use Rattle.ranks.proofs.Edges.{step_entry, entry_step}
 
 -- r is the greatest of m and of what h gives of the n numbers from a on
@@ -56,3 +56,25 @@ module _ (table : List (Option Edge)) (best : List ℕ) (to n : ℕ) (inside : n
           let (s, step, f, g, given) = entry_step table k to edge (omega arith) l is in
           let from : number best s.from ≡ number best k = ap (number best) f in
           inr (s, step, g, omega arith)
+
+module _ (table : List (Option Edge)) (best : List ℕ) where
+  relaxed_relaxes : (to : ℕ) → to < 128 → Relaxes table best 128 to (relaxed table best to)
+  unfolding relaxed
+  relaxed_relaxes to l = relaxes_greatest table best to 128 (omega arith) l
+
+  greatest_below : (to r q : ℕ) → Relaxes table best 128 to r → Relaxes table best 128 to q → r ≤ q
+  greatest_below to r q h k = ⊎_elim (λ none. omega arith) (λ given. let (s, step, e, is) = given in omega (arith, k.lifts s step e step.from)) h.some
+
+  pub relaxed_round : (next : List ℕ) → Round table best next → (i : ℕ) → i < 128 → number next i ≡ relaxed table best i
+  relaxed_round next round i l =
+      let one = round.each i l in
+      let other = relaxed_relaxes i l in
+      omega (arith, greatest_below i (number next i) (relaxed table best i) one other, greatest_below i (relaxed table best i) (number next i) other one)
+
+  pub tense_less : (next : List ℕ) (i : ℕ) → i < 128 → number next i ≡ relaxed table best i → number best i < number next i → Tense table best i
+  tense_less next i l is less = ⊎_elim (λ none. absurd (omega arith)) (λ given. let (s, step, e, n) = given in (s, step, e, omega arith)) (relaxed_relaxes i l).some
+
+  pub less_tense : (next : List ℕ) (i : ℕ) → ((k : ℕ) → k < 128 → number next k ≡ relaxed table best k) → Tense table best i → (i < 128) × (number best i < number next i)
+  less_tense next i is (s, step, e, more) =
+      let l : i < 128 = omega (arith, step.to) in
+      (l, omega (arith, (relaxed_relaxes i l).lifts s step e step.from, is i l))

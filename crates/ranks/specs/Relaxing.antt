@@ -1,5 +1,6 @@
 -- Numbers of positions in a list, and what the steps of a table make of them.
-use Rattle.std.specs.Prelude.{◌≡◌, ℕ, ◌+◌, ◌<◌, ◌≤◌, ◌⊎◌, List, length, Option, slice_index}
+use Rattle.std.specs.Prelude.{◌≡◌, ℕ, ◌+◌, ◌<◌, ◌≤◌, ◌⊎◌, List, length, map, max, Option, slice_index}
+use Rattle.std.specs.List.{range_with_len, reduce}
 use Rattle.std.specs.Option.{option_map, unwrap_or}
 use Rattle.graphs.specs.declared.step.Step.{Step}
 use Rattle.graphs.specs.Walks.{counts}
@@ -31,3 +32,7 @@ Tense table best to = (s : Step) × TableStep table s × (s.to ≡ to) × (numbe
 -- the number that the edge from the position `from` gives the position; 0 if there is no edge
 abbrev pub offered : List (Option Edge) → List ℕ → ℕ → ℕ → ℕ
 offered table best to from = unwrap_or (option_map (λ edge. number best from + adds edge) (entry table from to)) 0
+
+-- the greatest of the numbers that positions give the position
+unfoldable pub relaxed : List (Option Edge) → List ℕ → ℕ → ℕ
+relaxed table best to = unwrap_or (reduce max (map (offered table best to) (range_with_len 0 128))) 0

@@ -1,7 +1,7 @@
 // A table of edges between numbered positions, and what such a table is read from.
-ghost use Rattle.std.specs.Prelude.{◌≡◌, ℕ, List, Option, map};
+ghost use Rattle.std.specs.Prelude.{◌≡◌, ℕ, List, Option, Some, None, map};
 ghost use Rattle.ranks.specs.declared.edge.Edge as declared;
-ghost use Rattle.ranks.specs.Edges.{edge_of};
+ghost use Rattle.ranks.specs.Edges.{edge_of, edges_of};
 
 use crate::edge::Edge;
 use std::array;
@@ -14,43 +14,52 @@ pub const ENTRIES: usize = POSITIONS * POSITIONS;
 pub type Table = [Option<Edge>; ENTRIES];
 
 // In a table of bytes, the entry of an edge that is not special, and of one that is; any other byte is no edge.
-pub const NORMAL: u8 = 1;
+pub const NORMAL: u8 = Edge::Normal as u8;
 
-pub const SPECIAL: u8 = 2;
+pub const SPECIAL: u8 = Edge::Special as u8;
+
+pub type Bytes = [u8; ENTRIES];
 
 /// What a table of edges is read from.
 pub trait Edges {
     // the edges that it says
     ghost edges: { Self → List (Option declared.Edge) };
 
-    // The table of its edges.
-    fn table(&self) -> Table
-        ensures { result ≡ edges self.now };
+    // Its edges as bytes.
+    fn bytes(&self) -> Bytes
+        ensures { edges_of result ≡ edges self.now };
+}
+
+impl Edges for Bytes {
+    ghost edges = { edges_of };
+
+    fn bytes(&self) -> Bytes {
+        *self
+    }
 }
 
 impl Edges for Table {
     ghost edges = { λ t. t };
 
-    fn table(&self) -> Table {
-        *self
+    fn bytes(&self) -> Bytes {
+        array::from_fn(|at| byte_of(self[at]))
     }
 }
 
+// The byte of an entry.
+fn byte_of(entry: Option<Edge>) -> u8
+    ensures { edge_of result ≡ entry }
+{
+    entry.map_or(0, |edge| edge as u8)
+}
+
 // The edge that a byte says, if it says one.
-fn edge_of(byte: u8) -> Option<Edge>
+pub(crate) fn edge_of(byte: u8) -> Option<Edge>
     ensures { result ≡ edge_of byte }
 {
     match byte {
         NORMAL => Some(Edge::Normal),
         SPECIAL => Some(Edge::Special),
         _ => None,
-    }
-}
-
-impl Edges for [u8; ENTRIES] {
-    ghost edges = { map edge_of };
-
-    fn table(&self) -> Table {
-        array::from_fn(|at| edge_of(self[at]))
     }
 }

@@ -9,6 +9,7 @@ use Rattle.patterns.specs.Patterns.Line.{rule_line, fact_line}
 use Rattle.patterns.specs.declared.state.Form.TheVariants as forms
 use Rattle.patterns.specs.Asking.{Yes, Turned}
 use Rattle.patterns.specs.Asking.Asked.{line_length, bytes, word_length}
+use Rattle.bounded.specs.Bounded.{items}
 use Rattle.patterns.specs.declared.reader.Tables.{Tables}
 use Rattle.patterns.specs.declared.atom.Atom.{Atom}
 use Rattle.lists.specs.Places.{At}
@@ -47,4 +48,4 @@ only_atom (b ∷ before) d xs a e q = absurd (let n = ap length (sym (ap (map wr
 pub fact_written : (line : Bor (List ℕ)) (t : Tables) (d : Atom) → Last t.body (Some d) → Spells forms.Fact line t → AtomPartOf line d × Writes forms.Fact line.now (fact_line (written d))
 fact_written line t d last (rule_line a b h, (ts, _, f), k, _) = absurd f
 fact_written line t d (before, e) (fact_line a, w, k, _) =
-    (k.body_part (length before) d (subst (λ y. At y (length before) d) (sym e) (at_next before [] d)), subst (λ x. Writes forms.Fact line.now (fact_line x)) (sym (only_atom before d t.body.atoms.items a e k.first)) w)
+    (k.body_part (length before) d (subst (λ y. At y (length before) d) (sym e) (at_next before [] d)), subst (λ x. Writes forms.Fact line.now (fact_line x)) (sym (only_atom before d (items t.body.atoms) a e k.first)) w)

@@ -1,4 +1,4 @@
-use Rattle.std.proofs.Common.{◌≡◌, ℕ, ◌<◌, length, map, get_or, None, ◌∙◌, arith, rules}
+use Rattle.std.proofs.Common.{◌≡◌, length, map, get_or, None, ◌∙◌, arith, rules}
 use Rattle.std.proofs.lemmas.List.{ext_get_or, get_or-map, length-map}
 use Rattle.lists.proofs.FromFn.{from_fn_each}
 use Rattle.ranks.specs.Edges.{edge_of}

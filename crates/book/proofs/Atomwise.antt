@@ -13,7 +13,7 @@ use Rattle.naming.specs.Names.{predicates_of}
 use Rattle.naming.specs.Numbering.{Distinct}
 use Rattle.naming.proofs.Naming.{same_predicate}
 use Rattle.book.specs.Asking.{OneMore}
-use Rattle.book.specs.Learning.{Extra, Learnt, NewLearned}
+use Rattle.book.specs.Learning.{Extra, Learnt, Clash, NewLearned}
 use Rattle.book.specs.declared.learning.Learning.{Learning}
 
 one_more_longer : (known : List Predicate) (atoms more : List Written) (k : ℕ) (a : Written) → OneMore known atoms k a → OneMore known (atoms ++ more) k a
@@ -28,6 +28,10 @@ extra_keeps known atoms more seen after (Some p) f (k, a, one, e) = (k, a, one_m
 joined_one : (known : List Predicate) (atoms : List Written) (w : Written) (seen after : List Predicate) → Learned known atoms seen → Joined seen (predicate_of w ∷ []) after → Learned known (atoms ++ (w ∷ [])) after
 joined_one known atoms w seen after j k =
     subst (λ (xs : List Predicate). Joined known xs after) (sym (map_snoc predicate_of atoms w)) (joined_twice known (map predicate_of atoms) (predicate_of w ∷ []) seen after j k)
+
+-- nothing of the line is learned yet
+pub learnt_none : (l : Learning) → l.extra ≡ None → Distinct (predicates_of l.known) → length (predicates_of l.known) ≤ 32 → Learnt (predicates_of l.known) [] l
+learnt_none l e apart few = record { joined = refl; names = apart; extra = rw e few }
 
 -- the predicate is known with these columns
 pub learnt_same : (w : Written) (l : Learning) → Holds (predicates_of l.known) (predicate_of w) → (known : List Predicate) (atoms : List Written) → Learnt known atoms l → Learnt known (atoms ++ (w ∷ [])) l
@@ -67,6 +71,10 @@ learnt_new w l m unnamed n known atoms t = record {
 
     fits : length seen ≢ 32 → length seen ≤ 32 → length after ≤ 32
     fits other h = omega (arith, other, ap (λ (xs : List Predicate). length xs) n.known, length-append seen (predicate_of w ∷ []))
+
+-- a predicate of the name is known with other columns
+pub clash_here : (w : Written) (l : Learning) (i : ℕ) (p : Predicate) → At (predicates_of l.known) i p → p.name ≡ w.predicate.text → (p.columns ≡ length w.words → ⊥) → (known : List Predicate) (atoms : List Written) → Learnt known atoms l → Clash known atoms w
+clash_here w l i p at e ne known atoms t = record { seen = predicates_of l.known; joined = t.joined; names = t.names; other = p; there = (i, at); name = e; columns = ne }
 
 -- a predicate of the name with as many columns is the atom's
 pub named_there : (w : Written) (known : List Predicate) (i : ℕ) (p : Predicate) → At known i p → p.name ≡ w.predicate.text → p.columns ≡ length w.words → Holds known (predicate_of w)

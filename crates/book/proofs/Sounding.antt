@@ -1,4 +1,4 @@
--- Adding and withdrawing keep a book sound.
+-- The empty book is sound, and adding and withdrawing keep a book sound.
 use Rattle.std.proofs.Common.{◌≡◌, ℕ, zero, suc, ◌<◌, ◌≤◌, ◌≢◌, ◌⊎◌, List, [], ◌∷◌, ◌++◌, map, length, take, drop, sym, refl, ap, ◌∙◌, subst, inl, inr, ⊎_elim, arith, length-append}
 use Rattle.std.proofs.Math.ListN.{length-map}
 use Rattle.std.proofs.lemmas.Bool.{cases_eq}
@@ -14,7 +14,7 @@ use Rattle.theory.specs.Rules.{Atom, Rule, Numbered, SmallSide}
 use Rattle.naming.specs.Meaning.{Predicate, predicate_of, Learned, AtomMeans, RuleMeans}
 use Rattle.naming.specs.Numbering.{Distinct}
 use Rattle.naming.proofs.Naming.{same_predicate}
-use Rattle.book.specs.Book.{Entry, Book, rules, Carries, KnownAtom, Sound}
+use Rattle.book.specs.Book.{Entry, Book, empty, rules, Carries, KnownAtom, Sound}
 use Rattle.book.specs.Asking.{WritesRule, Known, Wanted, WrongColumns, Yes, Passes}
 use Rattle.book.specs.Asking.Asked.{label_unused, columns, predicates}
 use Rattle.book.specs.Changing.{Adds, Withdraws}
@@ -181,6 +181,11 @@ module _ (b : Book) (few_entries : length b.entries ≤ 64) (few : length b.know
     body = λ i k e a h g. (good i e h).known_body k a g;
     head = λ i k e a h g. (good i e h).known_head k a g;
   }
+
+-- ---- the empty book
+
+pub sound_empty : Sound empty
+sound_empty = sound_from empty (omega arith) (omega arith) (λ i j p q a c e. absurd a) (λ i p a. absurd a) (λ i j e f a c q. absurd a) (λ i e a. absurd a)
 
 -- ---- adding
 

@@ -1,7 +1,7 @@
--- What a contract sees of a bounded list.
-use Rattle.std.specs.Prelude.{List}
+-- What a bounded list is to a reader of contracts: its elements.
+use Rattle.std.specs.Prelude.{List, ℕ, take}
+use Rattle.bounded.specs.declared.Bounded.{Bounded}
 
--- the elements, and what lies in the unused places, of which no clause says anything
-pub record Bounded (T : Type 0) : Type 0 where
-  pub items : List T
-  pub spare : List T
+-- the elements, in their order; of the unused places no clause says anything
+unfoldable pub items : {T : Type 0} {N : ℕ} → Bounded T N → List T
+items b = take b.len b.places

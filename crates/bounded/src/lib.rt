@@ -1,46 +1,44 @@
 // Lists of at most N elements that lie in the value itself: they take no memory, and are copied like numbers.
-#![tactic(auto)]
+#![tactic(auto, unfolding(crate::specs::Bounded::items))]
 
-ghost use Rattle.std.specs.Prelude.{◌≡◌, ◌<◌, ◌≤◌, ◌↔◌, [], ◌∷◌, ◌++◌, length, IsOk, IsSome, IfOk, IfNone, OnOk, OnErr, OnSome};
+ghost use Rattle.std.specs.Prelude.{◌≡◌, ◌<◌, ◌≤◌, ◌↔◌, [], ◌∷◌, ◌++◌, length, IsOk, IsSome, IfOk, IfNone, OnOk, OnErr, OnSome, ⊤};
 ghost use Rattle.std.specs.Option.{option_to_list};
 
-use std::marker::Model;
+use std::alloc::AllocError;
 
 /// Says that a list has as many elements as it can have.
 #[derive(Clone, Copy, Debug, PartialEq, Eq)]
 pub struct Full;
 
-/// A list of at most N elements.
-#[derive(Clone, Copy, Debug)]
+/// A list of at most N elements. In clauses `items xs` are its elements.
+// No `impl Model`: a struct that has one and holds a reference cannot yet be copied in proved code.
+#[derive(Debug)]
 pub struct Bounded<T, const N: usize> {
     places: [T; N],
     len: usize,
+    ghost few: { len ≤ N },
+    ghost wide: { length places ≡ N },
 }
 
-// Clauses see the elements; the unused places are there so that the fields follow from what clauses see.
-impl<T, const N: usize> Model for Bounded<T, N> {
-    ghost use Rattle.std.specs.Prelude.{◌≡◌, ◌≤◌, ◌++◌, length, take, drop};
-    ghost use Rattle.std.proofs.Common.{arith, take-append-drop, length-take-le};
-    ghost use Rattle.bounded.specs.Bounded.{Bounded as Items};
+// By hand, since a generic struct with a ghost field derives no `Clone`.
+impl<T: Copy, const N: usize> Clone for Bounded<T, N> {
+    ghost is_clone = { λ x y. y ≡ x };
 
-    ghost Value = { Items T };
+    ghost is_infallible = { λ _. ⊤ };
 
-    ghost view = { λ b. record { items = take b.len b.places; spare = drop b.len b.places } };
-
-    ghost invariant = { λ b. (b.len ≤ N) × (length b.places ≡ N) };
-
-    ghost inverse = { λ b. record { places = b.items ++ b.spare; len = length b.items } };
-
-    ghost inverse_ok = { λ b h i. record {
-      places = take-append-drop b.len b.places i;
-      len = length-take-le b.len b.places (omega (arith, h.0, h.1)) i;
-    } };
+    fn clone(&self) -> Result<Bounded<T, N>, AllocError> {
+        Ok(*self)
+    }
 }
+
+impl<T: Copy, const N: usize> Copy for Bounded<T, N> {}
 
 impl<T: Copy, const N: usize> Bounded<T, N> {
+    ghost use Rattle.bounded.specs.Bounded.{items};
+
     /// No element. The filler lies in the unused places, where nobody sees it.
     pub fn new(filler: T) -> Bounded<T, N>
-        ensures { result.items ≡ [] }
+        ensures { items result ≡ [] }
     {
         Bounded {
             places: [filler; N],
@@ -51,7 +49,7 @@ impl<T: Copy, const N: usize> Bounded<T, N> {
     /// These elements, if they are not too many.
     pub fn from_slice(filler: T, elements: &[T]) -> Result<Bounded<T, N>, Full>
         ensures fits { IsOk result ↔ (length elements.now ≤ N) }
-        ensures items { IfOk result (λ b. b.items ≡ elements.now) }
+        ensures items { IfOk result (λ b. items b ≡ elements.now) }
     {
         let len = elements.len();
         if len > N {
@@ -64,7 +62,7 @@ impl<T: Copy, const N: usize> Bounded<T, N> {
 
     /// The elements, in their order.
     pub fn as_slice(&self) -> &[T]
-        ensures items { result.now ≡ self.now.items }
+        ensures items { result.now ≡ items self.now }
         ensures fits { length result.now ≤ N }
     {
         &self.places[..self.len]
@@ -72,7 +70,7 @@ impl<T: Copy, const N: usize> Bounded<T, N> {
 
     /// How many elements there are.
     pub fn len(&self) -> usize
-        ensures length { result ≡ length self.now.items }
+        ensures length { result ≡ length (items self.now) }
         ensures fits { result ≤ N }
     {
         self.as_slice().len()
@@ -80,8 +78,8 @@ impl<T: Copy, const N: usize> Bounded<T, N> {
 
     /// One element more, behind the others, unless there are N.
     pub fn push(&mut self, element: T) -> Result<(), Full>
-        ensures fits { IsOk result ↔ (length self.old.items < N) }
-        ensures items { OnOk result (self.new.items ≡ self.old.items ++ (element ∷ [])) }
+        ensures fits { IsOk result ↔ (length (items self.old) < N) }
+        ensures items { OnOk result (items self.new ≡ items self.old ++ (element ∷ [])) }
         ensures unchanged { OnErr result (self.new ≡ self.old) }
     {
         if self.len == N {
@@ -94,9 +92,9 @@ impl<T: Copy, const N: usize> Bounded<T, N> {
 
     /// The last element, which is taken away, if there is one.
     pub fn pop(&mut self) -> Option<T>
-        ensures some { IsSome result ↔ (0 < length self.old.items) }
-        ensures items { self.old.items ≡ self.new.items ++ option_to_list result }
-        ensures room { OnSome result (length self.new.items < N) }
+        ensures some { IsSome result ↔ (0 < length (items self.old)) }
+        ensures items { items self.old ≡ items self.new ++ option_to_list result }
+        ensures room { OnSome result (length (items self.new) < N) }
         ensures unchanged { IfNone result (self.new ≡ self.old) }
     {
         if self.len == 0 {

@@ -1,14 +1,17 @@
--- What a search through a list by a test tells.
-use Rattle.std.proofs.Common.{◌≡◌, ℕ, ◌<◌, Bool, true, false, List, length, Decides, sym, refl, subst, arith}
+-- What a search through a list by a test tells, and what has been looked up among the occurrences of a side.
+use Rattle.std.proofs.Common.{◌≡◌, ℕ, ◌+◌, ◌*◌, ◌/◌, ◌%◌, ◌<◌, ◌≤◌, Bool, true, false, List, map, length, get_or, Some, None, Decides, sym, refl, ap, ◌∙◌, subst, arith}
+use Rattle.std.proofs.Math.ListN.{length-map}
 use Rattle.std.specs.Bool.{MatchBool}
-use Rattle.std.specs.List.{Contains, HoldsAt, AllWithin}
+use Rattle.std.specs.List.{Contains, HoldsAt, AllWithin, slice_get}
 use Rattle.std.proofs.lemmas.Bool.{false≢true}
+use Rattle.std.proofs.lemmas.Option.{slice_get_read, slice_get-get_or, slice_get_past}
 use Rattle.lists.specs.Places.{At}
-use Rattle.lists.proofs.Elements.{at_some, map_at}
+use Rattle.lists.proofs.Elements.{at_some, map_at, at_nth, nth_at}
 use Rattle.lists.proofs.Mapped.{at_map}
 use Rattle.lists.proofs.Numbered.{at_below, at_get, get_at}
 use Rattle.theory.specs.Rules as plain
-use Rattle.theory.specs.Rules.{In}
+use Rattle.theory.specs.Rules.{In, position}
+use Rattle.theory.specs.Occurrences.{in_column, in_atom, occurrence_of}
 use Rattle.rules.specs.declared.rule.Atom.{Atom}
 use Rattle.rules.specs.declared.rule.Side.{Side}
 use Rattle.rules.specs.Views.{variables, atoms_of, plain_atom, plain_side}
@@ -55,3 +58,27 @@ in_some d xs v r e h = ((λ t. found (h.0 t)), λ t. h.1 (back t))
     back (k, c, (b, here, there)) =
         let (a, at_a, same) = at_map plain_atom (atoms_of d) k b here in
         (k, a, subst (λ (ys : List Atom). At ys k a) (sym e) at_a, at_contains (variables a) c v (subst (λ (y : plain.Atom). At y.columns c v) (sym same) there))
+
+nth_map : {A B : Type 0} (f : A → B) (xs : List A) (i : ℕ) (x : A) → slice_get xs i ≡ Some x → slice_get (map f xs) i ≡ Some (f x)
+nth_map f xs i x e = at_nth (map f xs) i (f x) (map_at f xs i x (nth_at xs i x e))
+
+-- looked up in the atoms xs and the variables ys
+pub no_atom : (d : Side) (xs : List Atom) (n : ℕ) → xs ≡ atoms_of d → length xs ≤ n / 4 → None ≡ occurrence_of (plain_side d) n
+no_atom d xs n e past =
+    let l = length-map (atoms_of d) plain_atom in
+    let same = ap (λ (zs : List Atom). length zs) e in
+    sym (ap (in_atom (n % 4)) (slice_get_past (plain_side d) (n / 4) (omega arith)))
+
+module _ (d : Side) (xs : List Atom) (ys : List ℕ) (n : ℕ) (a : Atom) (e : xs ≡ atoms_of d) (l : n / 4 < length xs) (here : a ≡ get_or xs (n / 4) a) (f : ys ≡ variables a) where
+  in_columns : in_column (plain_atom a) (n % 4) (slice_get ys (n % 4)) ≡ occurrence_of (plain_side d) n
+  in_columns =
+      let found = slice_get_read xs (length xs) (n / 4) a refl l here in
+      ap (λ zs. in_column (plain_atom a) (n % 4) (slice_get zs (n % 4))) f ∙ sym (ap (in_atom (n % 4)) (nth_map plain_atom (atoms_of d) (n / 4) a (ap (λ zs. slice_get zs (n / 4)) (sym e) ∙ found)))
+
+  pub no_column : length ys ≤ n % 4 → None ≡ occurrence_of (plain_side d) n
+  no_column past = sym (ap (in_column (plain_atom a) (n % 4)) (slice_get_past ys (n % 4) past)) ∙ in_columns
+
+  pub one_column : (p : ℕ) → p ≡ a.predicate → n % 4 < length ys → Some (get_or ys (n % 4) 0, 4 * p + n % 4) ≡ occurrence_of (plain_side d) n
+  one_column p g m =
+      let same : 4 * p + n % 4 ≡ position (plain_atom a) (n % 4) = omega arith in
+      ap (λ (q : ℕ). Some (get_or ys (n % 4) 0, q)) same ∙ (sym (ap (in_column (plain_atom a) (n % 4)) (slice_get-get_or ys (n % 4) 0 m)) ∙ in_columns)

@@ -23,6 +23,15 @@ raised_none E xs none = record {
   only = λ p q k l. inl refl;
 }
 
+-- the same edges, said otherwise
+pub raised_same : (E F : Option Edge → ℕ → ℕ → Type 0) (xs ys : List (Option Edge)) → ((e : Option Edge) (p q : ℕ) → E e p q → F e p q) → ((e : Option Edge) (p q : ℕ) → F e p q → E e p q) → Raised E xs ys → Raised F xs ys
+raised_same E F xs ys to from r = record {
+  long = r.long;
+  keeps = r.keeps;
+  raises = λ e p q k l f. r.raises e p q k l (from e p q f);
+  only = λ p q k l. ⊎_elim (λ same. inl same) (λ h. inr (to _ p q h)) (r.only p q k l);
+}
+
 -- the edges of the first element are raised, and then those of the others
 pub raised_first : {A : Type 0} (E : A → Option Edge → ℕ → ℕ → Type 0) (a : A) (bs : List A) (xs ys zs : List (Option Edge)) → Raised (E a) xs ys → Raised (Among E bs) ys zs → Raised (Among E (a ∷ bs)) xs zs
 raised_first {A} E a bs xs ys zs r s = record {
@@ -53,12 +62,10 @@ edge_single r v u (Some Special) (Some Normal) s t = absurd (t.0 s)
 edge_single r v u (Some Special) (Some Special) s t = refl
 
 pub raised_to : (r : Rule) (from to : ℕ × ℕ) (e : Option Edge) (xs ys : List (Option Edge)) → EdgeIs r from.0 to.0 e → Raised (One from.1 to.1 e) xs ys → Raised (EdgesTo r from to) xs ys
-raised_to r from to e xs ys is one = record {
-  long = one.long;
-  keeps = one.keeps;
-  raises = λ d p q l m (f, g, h). one.raises d p q l m (f, g, edge_single r from.0 to.0 d e h is);
-  only = λ p q l m. ⊎_elim (λ f. inl f) (λ (f, g, h). inr (f, g, subst (λ (d : Option Edge). EdgeIs r from.0 to.0 d) (sym h) is)) (one.only p q l m);
-}
+raised_to r from to e xs ys is =
+    raised_same (One from.1 to.1 e) (EdgesTo r from to) xs ys
+    (λ d p q (f, g, h). (f, g, subst (λ (x : Option Edge). EdgeIs r from.0 to.0 x) (sym h) is))
+    (λ d p q (f, g, h). (f, g, edge_single r from.0 to.0 d e h is))
 
 -- the edges of all rules, as they are raised and as they are defined
 module _ (rules : List memory.Rule) where

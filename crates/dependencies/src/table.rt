@@ -10,11 +10,11 @@ use ranks::edge::Edge;
 use ranks::table::{ENTRIES, POSITIONS, Table};
 use rules::rule::Rule;
 
-// The edge from the variable `from` of the body to the variable `to` of the head, if there is one.
+// The edge from the variable `from` of the body to the variable `to` of the head, if there is one. Most variables of a head stand in the body, so that is asked first.
 fn edge_between(rule: &Rule, from: u8, to: u8) -> Option<Edge>
     ensures { EdgeIs (plain_rule rule.now) from to result }
 {
-    if contains(&rule.head, from) && !contains(&rule.body, to) {
+    if !contains(&rule.body, to) && contains(&rule.head, from) {
         Some(Edge::Special)
     } else if from == to {
         Some(Edge::Normal)
@@ -23,12 +23,16 @@ fn edge_between(rule: &Rule, from: u8, to: u8) -> Option<Edge>
     }
 }
 
-// Raises one entry to the edge: a special edge is above a normal one, and that above none.
+// Raises one entry to the edge: a special edge is above a normal one, and that above none. Not `max` of the derived order, which takes as long as the rest of a turn.
 fn raise(table: &mut Table, from: Occurrence, to: Occurrence, edge: Option<Edge>)
     ensures { Raised (One from.position to.position edge) table.old table.new }
 {
     let at = POSITIONS * from.position + to.position;
-    table[at] = table[at].max(edge);
+    match edge {
+        Some(Edge::Special) => table[at] = edge,
+        Some(_) => table[at] = table[at].or(edge),
+        None => {}
+    }
 }
 
 // Raises the entries for the edges from one body occurrence.

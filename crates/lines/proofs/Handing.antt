@@ -7,6 +7,9 @@ use Rattle.lines.specs.Cutting.{NoNewline, Cut, Ends}
 use Rattle.lines.specs.Cutting.Cut.{empty, last, line}
 use Rattle.lines.proofs.Unique.{cut_single}
 
+pub nothing_left : (s : List ℕ) (i : ℕ) → length s ≤ i → Cut (drop i s) []
+nothing_left s i h = empty (drop_all i s h)
+
 no_newline : (s : List ℕ) (e : ℕ) → Ends s e → NoNewline (take e s)
 no_newline s e x k h =
     let below : k < e = omega (arith, simp length-take at (at_below (take e s) k 10 h)) in
@@ -30,7 +33,7 @@ whole s e h x l =
 line_first : (s : List ℕ) (e j : ℕ) (rest : List (List ℕ)) → 0 < length s → Ends s e → j ≡ min (length s) (e + 1) → Cut (drop j s) rest → Cut s (take e s ∷ rest)
 line_first s e j rest h x q c = ⊎_elim
     (λ l. let there : j ≡ e + 1 = omega arith in line _ (drop (e + 1) s) (no_newline s e x) (parted s e x l) (subst (λ (k : ℕ). Cut (drop k s) rest) there c))
-    (λ l. let none : [] ≡ rest = cut_single (drop j s) [] rest (empty (drop_all j s (omega arith))) c in subst (λ (r : List (List ℕ)). Cut s (take e s ∷ r)) none (whole s e h x l))
+    (λ l. let none : [] ≡ rest = cut_single (drop j s) [] rest (nothing_left s j (omega arith)) c in subst (λ (r : List (List ℕ)). Cut s (take e s ∷ r)) none (whole s e h x l))
     (cases_lt e (length s))
 
 -- the same of r, what is left of the text from the place i on

@@ -7,3 +7,4 @@ pub mod Leading
 pub mod Mapped
 pub mod Numbered
 pub mod Pigeons
+pub mod Searching

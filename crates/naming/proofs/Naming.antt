@@ -18,11 +18,11 @@ module _ (known : List Predicate) (w : Written) (text : List ℕ) (i : ℕ) (q :
   name_is : q.name ≡ w.predicate.text
   name_is = first.does ∙ spelled
 
-  named_first : q.columns ≡ length w.words → FirstAt known i (predicate_of w)
+  pub named_first : q.columns ≡ length w.words → FirstAt known i (predicate_of w)
   named_first e =
       (subst (λ x. At known i x) (same_predicate q (predicate_of w) name_is e) first.here, λ j l at. first.earlier j (predicate_of w) l at (sym spelled))
 
-  named_otherwise : (q.columns ≡ length w.words → ⊥) → Distinct known → Holds known (predicate_of w) → ⊥
+  pub named_otherwise : (q.columns ≡ length w.words → ⊥) → Distinct known → Holds known (predicate_of w) → ⊥
   named_otherwise ne apart (j, at) =
       let e = apart i j q (predicate_of w) first.here at name_is in
       ne (ap (λ x. x.columns) (at_same known j q (predicate_of w) (subst (λ k. At known k q) e first.here) at))

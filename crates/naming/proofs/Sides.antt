@@ -1,7 +1,7 @@
 -- Numbering the words of an atom, the atoms of a side, and the two sides of a rule.
 use Rattle.std.proofs.Common.{◌≡◌, ℕ, ◌+◌, ◌*◌, ◌≤◌, List, [], ◌∷◌, ◌++◌, map, length, Some, None, Option, sym, refl, ap, ◌∙◌, subst, append_assoc, inl, inr, append-nil, length-append, arith}
 use Rattle.std.proofs.Math.ListN.{length-map}
-use Rattle.lists.specs.Places.{FirstAt, Pairwise}
+use Rattle.lists.specs.Places.{At, FirstAt, Pairwise}
 use Rattle.lists.specs.Joins.{Joined}
 use Rattle.lists.proofs.Joining.{first_stays, joined_twice}
 use Rattle.lists.proofs.Mapped.{map_snoc, pairs_snoc, pairs_grow, pairs_length}
@@ -81,6 +81,14 @@ module _ (known : List Predicate) (ws : List Written) (before mid : List (List �
   begun_long =
       let long = pairs_length (AtomMeans known mid) ws (map plain_atom made) b.pairs in
       (omega (arith, length-map made plain_atom), omega (arith, b.few, joined_most before (words_of ws) mid b.joined))
+
+  -- an atom behind them that cannot be numbered
+  pub begun_stuck : (after : List (List ℕ)) (atoms : List Written) (i : ℕ) (w : Written) → length ws ≤ i → length atoms ≤ 4 → At atoms i w → AtomNumbered known w mid after None → SideNumbered known atoms before after None
+  begun_stuck after atoms i w behind few at none = λ small all.
+      let most = none small (all.1 i w at) in
+      let long = begun_long in
+      let inside = at_below atoms i w at in
+      omega arith
 
   pub begun_all : (r : Option Side) → length ws ≤ 4 → SideMade made r → SideNumbered known ws before mid r
   begun_all None few stuck = λ small all.

@@ -1,5 +1,6 @@
 -- What the predicates and variables that are kept spell, and what the calls on them do.
 use Rattle.std.specs.Prelude.{◌≡◌, ℕ, ◌≤◌, List, [], ◌∷◌, ◌++◌, map, length, Some, None, Ok, Err, Option, Result, ◌≢◌}
+use Rattle.bounded.specs.Bounded.{items}
 use Rattle.bounded.specs.declared.Full.{Full}
 use Rattle.lists.specs.Places.{At, Holds, First, FirstAt}
 use Rattle.lists.specs.Joins.{Joined}
@@ -13,7 +14,7 @@ abbrev pub plain_predicate : Predicate → plain.Predicate
 plain_predicate p = record { name = text_of p.name; columns = p.columns }
 
 abbrev pub predicates_of : Predicates → List plain.Predicate
-predicates_of t = map plain_predicate t.list.items
+predicates_of t = map plain_predicate (items t.list)
 
 -- the predicate of this number; or there is none
 abbrev pub Gets : List plain.Predicate → ℕ → Option Predicate → Type 0
@@ -37,7 +38,7 @@ Grows t p u (Err e) = (u ≡ t) × (40 ≤ length (predicates_of t))
 
 -- the texts of the variables that are numbered
 abbrev pub names_of : Variables → List (List ℕ)
-names_of v = map (λ t. t.now) v.texts.items
+names_of v = map (λ t. t.now) (items v.texts)
 
 -- the number of the first name that is this text; or there is none
 abbrev pub FindsWord : List (List ℕ) → List ℕ → Option ℕ → Type 0

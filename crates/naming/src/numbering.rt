@@ -1,5 +1,6 @@
 // The rule that the two sides of a rule line mean: predicates by their numbers in a book, variables by first occurrence.
 ghost use Rattle.std.specs.Prelude.{◌<◌, ◌≤◌, map, length, MatchResult};
+ghost use Rattle.bounded.specs.Bounded.{items};
 ghost use Rattle.patterns.specs.Tables.{word_of, written, side_of};
 ghost use Rattle.naming.specs.Names.{predicates_of, names_of};
 ghost use Rattle.naming.specs.Numbering.{PredicateNumber, WordsNumbered, AtomNumbered, SideNumbered, RuleNumbered};
@@ -28,7 +29,7 @@ fn number_words<'a>(
     words: &[Word<'a>],
     variables: &mut Variables<'a>,
 ) -> Result<Bounded<u8, MOST>, Full>
-    ensures { MatchResult result (λ n. WordsNumbered (map word_of words.now) (names_of variables.old) (names_of variables.new) n.items) (λ _. length words.now ≤ 4 → 28 < length (names_of variables.old)) }
+    ensures { MatchResult result (λ n. WordsNumbered (map word_of words.now) (names_of variables.old) (names_of variables.new) (items n)) (λ _. length words.now ≤ 4 → 28 < length (names_of variables.old)) }
 {
     let mut numbers = Bounded::new(0);
     for word in words {

@@ -1,5 +1,6 @@
 // The predicates of a book, by number.
 ghost use Rattle.std.specs.Prelude.{◌≤◌, length};
+ghost use Rattle.bounded.specs.Bounded.{items};
 
 use bounded::Bounded;
 use rules::name::Name;
@@ -18,5 +19,5 @@ pub struct Predicate {
 #[derive(Clone, Copy)]
 pub struct Predicates {
     list: Bounded<Predicate, MOST>,
-    ghost few: { length list.items ≤ 40 },
+    ghost few: { length (items list) ≤ 40 },
 }

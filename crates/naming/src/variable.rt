@@ -1,5 +1,6 @@
 // The variables of a rule line, by number: each by the word where it first occurs.
 ghost use Rattle.std.specs.Prelude.{◌≤◌, length};
+ghost use Rattle.bounded.specs.Bounded.{items};
 
 use bounded::Bounded;
 
@@ -11,5 +12,5 @@ const MOST: usize = 32;
 #[derive(Drop)]
 pub struct Variables<'a> {
     texts: Bounded<&'a [u8], MOST>,
-    ghost few: { length texts.items ≤ 32 },
+    ghost few: { length (items texts) ≤ 32 },
 }

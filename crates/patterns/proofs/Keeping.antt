@@ -4,6 +4,7 @@ use Rattle.std.specs.Borrow.{Bor}
 use Rattle.std.specs.Result.{is_err}
 use Rattle.std.proofs.lemmas.List.{length-map}
 use Rattle.std.proofs.lemmas.Bool.{both_ways}
+use Rattle.bounded.specs.Bounded.{items}
 use Rattle.bounded.specs.declared.Full.{Full}
 use Rattle.lists.specs.Places.{At}
 use Rattle.lists.proofs.Numbered.{at_below, at_left, at_next, at_snoc}
@@ -50,29 +51,29 @@ no_words xs e = let z = ap length e in omega arith
 
 begun : (line : Bor (List ℕ)) (d e : Side) (w : Word) (xs : List Written) → PartOf line w → Holding line d xs → Begun d w e (Ok tt) → Holding line e (xs ++ (atom_of (word_of w) [] ∷ []))
 begun line d e w xs o g (a, h, p, n, l) = record {
-  spells = ap (map written) h ∙ map_snoc written d.atoms.items a
+  spells = ap (map written) h ∙ map_snoc written (items d.atoms) a
       ∙ ap (λ (k : List Written). k ++ (written a ∷ [])) g.spells
-      ∙ ap (λ (k : Written). xs ++ (k ∷ [])) (ap (λ (u : Word). atom_of (word_of u) (map word_of a.words.items)) p ∙ ap (λ (u : List Word). atom_of (word_of w) (map word_of u)) n);
+      ∙ ap (λ (k : Written). xs ++ (k ∷ [])) (ap (λ (u : Word). atom_of (word_of u) (map word_of (items a.words))) p ∙ ap (λ (u : List Word). atom_of (word_of w) (map word_of u)) n);
   few = record {
-    atoms = let q = ap length h ∙ length-append d.atoms.items (a ∷ []) in omega arith;
-    words = behind d.atoms.items e.atoms.items a h g.few.words (no_words a.words.items n);
+    atoms = let q = ap length h ∙ length-append (items d.atoms) (a ∷ []) in omega arith;
+    words = behind (items d.atoms) (items e.atoms) a h g.few.words (no_words (items a.words) n);
   };
-  part = behind d.atoms.items e.atoms.items a h g.part (record { predicate = subst (PartOf line) (sym p) o; words = λ j v q. absurd (subst (λ y. At y j v) n q) });
+  part = behind (items d.atoms) (items e.atoms) a h g.part (record { predicate = subst (PartOf line) (sym p) o; words = λ j v q. absurd (subst (λ y. At y j v) n q) });
 }
 
 begun_full : (line : Bor (List ℕ)) (d e : Side) (w : Word) (xs : List Written) (x : Full) → Holding line d xs → Begun d w e (Err x) → length xs ≡ 4
-begun_full line d e w xs x g (_, n) = let few = g.few.atoms in ap length (sym g.spells) ∙ length-map d.atoms.items written ∙ omega arith
+begun_full line d e w xs x g (_, n) = let few = g.few.atoms in ap length (sym g.spells) ∙ length-map (items d.atoms) written ∙ omega arith
 
 -- ---- a word in brackets
 pushed : (a b : Atom) (w : Word) → Pushed a w b (Ok tt) → written b ≡ atom_of (written a).predicate ((written a).words ++ (word_of w ∷ []))
 pushed a b w (p, h, _) =
-    ap (λ (u : Word). atom_of (word_of u) (map word_of b.words.items)) p
-    ∙ ap (λ (u : List Token). atom_of (word_of a.predicate) u) (ap (map word_of) h ∙ map_snoc word_of a.words.items w)
+    ap (λ (u : Word). atom_of (word_of u) (map word_of (items b.words))) p
+    ∙ ap (λ (u : List Token). atom_of (word_of a.predicate) u) (ap (map word_of) h ∙ map_snoc word_of (items a.words) w)
 
 pushed_part : (line : Bor (List ℕ)) (a b : Atom) (w : Word) → PartOf line w → AtomPartOf line a → Pushed a w b (Ok tt) → AtomPartOf line b
-pushed_part line a b w o g (p, h, _) = record { predicate = subst (PartOf line) (sym p) g.predicate; words = λ j v q. cases j v (at_snoc a.words.items w j v (subst (λ y. At y j v) h q)) }
+pushed_part line a b w o g (p, h, _) = record { predicate = subst (PartOf line) (sym p) g.predicate; words = λ j v q. cases j v (at_snoc (items a.words) w j v (subst (λ y. At y j v) h q)) }
   where
-    cases : (j : ℕ) (v : Word) → At a.words.items j v ⊎ ((j ≡ length a.words.items) × (w ≡ v)) → PartOf line v
+    cases : (j : ℕ) (v : Word) → At (items a.words) j v ⊎ ((j ≡ length (items a.words)) × (w ≡ v)) → PartOf line v
     cases j v (inl q) = g.words j v q
     cases j v (inr (_, same)) = subst (PartOf line) same o
 
@@ -91,9 +92,9 @@ added line d e w xs o g (inr h) =
           ∙ ap (λ (k : List Written). push_word k (word_of w)) (sym (map_snoc written h.before h.old) ∙ sym (ap (map written) h.was) ∙ g.spells);
       few = record {
         atoms = let i = ap length h.is ∙ length-append h.before (h.new ∷ []) in let j = ap length h.was ∙ length-append h.before (h.old ∷ []) in let few = g.few.atoms in omega arith;
-        words = behind h.before e.atoms.items h.new h.is (front_of h.before d.atoms.items h.old h.was g.few.words) (let i = ap length q ∙ length-append h.old.words.items (w ∷ []) in omega arith);
+        words = behind h.before (items e.atoms) h.new h.is (front_of h.before (items d.atoms) h.old h.was g.few.words) (let i = ap length q ∙ length-append (items h.old.words) (w ∷ []) in omega arith);
       };
-      part = behind h.before e.atoms.items h.new h.is (front_of h.before d.atoms.items h.old h.was g.part) (pushed_part line h.old h.new w o (last_of h.before d.atoms.items h.old h.was g.part) h.pushed);
+      part = behind h.before (items e.atoms) h.new h.is (front_of h.before (items d.atoms) h.old h.was g.part) (pushed_part line h.old h.new w o (last_of h.before (items d.atoms) h.old h.was g.part) h.pushed);
     }
 
 -- the last atom has four words
@@ -101,8 +102,8 @@ added_full : (line : Bor (List ℕ)) (d e : Side) (w : Word) (xs : List Written)
 added_full line d e w xs x g (inl (_, _, r)) = absurd (both_ways true (ap is_err r) refl)
 added_full line d e w xs x g (inr h) =
     let (_, n) = h.pushed in
-    let few = last_of h.before d.atoms.items h.old h.was g.few.words in
-    (map written h.before, written h.old, sym g.spells ∙ ap (map written) h.was ∙ map_snoc written h.before h.old, length-map h.old.words.items word_of ∙ omega arith)
+    let few = last_of h.before (items d.atoms) h.old h.was g.few.words in
+    (map written h.before, written h.old, sym g.spells ∙ ap (map written) h.was ∙ map_snoc written h.before h.old, length-map (items h.old.words) word_of ∙ omega arith)
 
 fifth_word : (xss : List (List Written)) (n : ℕ) (xs : List Written) (t : Token) → At xss n (push_word xs t) → (before : List Written) × (a : Written) × (xs ≡ before ++ (a ∷ [])) × (length a.words ≡ 4) → Extra xss t
 fifth_word xss n xs t h (before, a, e, l) = word_extra xss n before a t (subst (λ k. At xss n (push_word k t)) e h) l
@@ -168,11 +169,11 @@ word_in_head p w old d r e b = subst (λ q. Kept (state.Word q) w old (with_head
 -- ---- what the tables hold is not too many
 
 few_atoms : (d : Side) (k : ℕ) (a : Written) (v : Token) → FewIn d → At (side_of d) k a → Over k a v → ⊥
-few_atoms d k a v g h (inl (l, _)) = let b = at_below (side_of d) k a h in let e = length-map d.atoms.items written in let few = g.atoms in omega arith
+few_atoms d k a v g h (inl (l, _)) = let b = at_below (side_of d) k a h in let e = length-map (items d.atoms) written in let few = g.atoms in omega arith
 few_atoms d k a v g h (inr (j, q, l)) =
-    let (b, i, e) = at_map written d.atoms.items k a h in
-    let below = at_below (map word_of b.words.items) j v (subst (λ y. At y.words j v) (sym e) q) in
-    let long = length-map b.words.items word_of in
+    let (b, i, e) = at_map written (items d.atoms) k a h in
+    let below = at_below (map word_of (items b.words)) j v (subst (λ y. At y.words j v) (sym e) q) in
+    let long = length-map (items b.words) word_of in
     let few = g.words k b i in
     omega arith
 

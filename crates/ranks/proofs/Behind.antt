@@ -79,10 +79,10 @@ module _ (table : List (Option Edge)) (best : List ℕ) where
 
 module _ (table : List (Option Edge)) (best rounds : List ℕ) (attained : Attained (TableStep table) (number best)) (covers : Covers (TableStep table) 127 (number best))
     (found : Found 128 (Tense table best) (steps.Step (record { count = 16384; needs = source table; leads = λ k. k % 128 })) rounds) where
-  infinite_found : (p : ℕ) → (get_or rounds p 0 ≡ 0 → ⊥) → Ranked (TableStep table) p Infinite
+  pub infinite_found : (p : ℕ) → (get_or rounds p 0 ≡ 0 → ⊥) → Ranked (TableStep table) p Infinite
   infinite_found p some = behind_infinite table best attained covers p (found.sound p (omega arith))
 
-  ranked_unfound : (p : ℕ) → get_or rounds p 0 ≡ 0 → Ranked (TableStep table) p (Number (number best p))
+  pub ranked_unfound : (p : ℕ) → get_or rounds p 0 ≡ 0 → Ranked (TableStep table) p (Number (number best p))
   ranked_unfound p none =
       let rank = ranked_else table best attained p (λ h. let some = found.complete p h in omega arith) in
       (rank, λ h. (ranks_single (TableStep table)).apart p (number best p) h rank)

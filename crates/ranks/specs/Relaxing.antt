@@ -1,6 +1,7 @@
 -- Numbers of positions in a list, and what the steps of a table make of them.
-use Rattle.std.specs.Prelude.{◌≡◌, ℕ, ◌+◌, ◌<◌, ◌≤◌, ◌⊎◌, List, length, Option, slice_index}
-use Rattle.std.specs.Option.{option_map}
+use Rattle.std.specs.Prelude.{◌≡◌, ℕ, ◌+◌, ◌<◌, ◌≤◌, ◌⊎◌, List, length, map, max, Option, slice_index}
+use Rattle.std.specs.List.{range_with_len, reduce}
+use Rattle.std.specs.Option.{option_map, unwrap_or}
 use Rattle.graphs.specs.declared.step.Step.{Step}
 use Rattle.graphs.specs.Walks.{counts}
 use Rattle.ranks.specs.declared.edge.Edge.{Edge}
@@ -28,6 +29,10 @@ pub record Round (table : List (Option Edge)) (old new : List ℕ) : Type 0 wher
 abbrev pub Tense : List (Option Edge) → List ℕ → ℕ → Type 0
 Tense table best to = (s : Step) × TableStep table s × (s.to ≡ to) × (number best to < number best s.from + counts s)
 
--- the number that the edge from the position `from` gives the position, if there is an edge
-abbrev pub offered : List (Option Edge) → List ℕ → ℕ → ℕ → Option ℕ
-offered table best to from = option_map (λ edge. number best from + adds edge) (entry table from to)
+-- the number that the edge from the position `from` gives the position; 0 if there is no edge
+abbrev pub offered : List (Option Edge) → List ℕ → ℕ → ℕ → ℕ
+offered table best to from = unwrap_or (option_map (λ edge. number best from + adds edge) (entry table from to)) 0
+
+-- the greatest of the numbers that positions give the position
+unfoldable pub relaxed : List (Option Edge) → List ℕ → ℕ → ℕ
+relaxed table best to = unwrap_or (reduce max (map (offered table best to) (range_with_len 0 128))) 0

@@ -2,11 +2,11 @@
 ghost use Rattle.std.specs.Prelude.{◌≡◌};
 ghost use Rattle.ranks.specs.Edges.{adds};
 
-// A special edge counts on a walk, a normal one does not.
-#[derive(Clone, Copy, Debug, PartialEq, Eq, PartialOrd, Ord)]
+// A special edge counts on a walk, a normal one does not. Their numbers are their bytes in a table of bytes.
+#[derive(Clone, Copy, Debug, PartialEq, Eq, PartialOrd, Ord, Hash)]
 pub enum Edge {
-    Normal,
-    Special,
+    Normal = 1,
+    Special = 2,
 }
 
 impl Edge {

@@ -4,6 +4,7 @@
 ghost use Rattle.std.specs.Prelude.{◌≡◌, ℕ, ◌<◌, ◌==◌, if◌then◌else◌, List, slice_index_or};
 ghost use Rattle.graphs.specs.declared.step.Step.{Step};
 ghost use Rattle.graphs.specs.Laws.{Finite};
+ghost use Rattle.ranks.specs.Edges.{edges_of};
 ghost use Rattle.ranks.specs.Tables.{TableStep};
 ghost use Rattle.ranks.specs.Answers.{Ranked};
 ghost use Rattle.ranks.specs.declared.rank.Rank.TheVariants as rank;
@@ -11,7 +12,7 @@ ghost use Rattle.ranks.specs.declared.rank.Rank.TheVariants as rank;
 use fixpoint::{Round, search};
 use rank::Rank;
 use std::array;
-use table::{POSITIONS, Table};
+use table::{Bytes, Edges, POSITIONS};
 use unsettled::Unsettled;
 
 mod best;
@@ -31,12 +32,24 @@ fn told(round: Round, number: u16) -> Rank
     }
 }
 
-/// The rank of each position, or that it is infinite; and each place of any finite list of edges is the one or the other.
-pub fn ranks(table: &Table) -> [Rank; POSITIONS]
-    ensures each { (p : ℕ) → p < 128 → Ranked (TableStep table.now) p (slice_index_or result p rank.Infinite) }
+// The ranks of a table of bytes.
+fn ranks_of(table: &Bytes) -> [Rank; POSITIONS]
+    ensures each { (p : ℕ) → p < 128 → Ranked (TableStep (edges_of table.now)) p (slice_index_or result p rank.Infinite) }
     ensures laws { (edges : List Step) → Finite edges }
 {
-    let best = best::best(table);
-    let rounds = search(&Unsettled { table, best: &best });
+    let (best, next) = best::best(table);
+    let rounds = search(&Unsettled {
+        table,
+        best: &best,
+        next: &next,
+    });
     array::from_fn(|p| told(rounds[p], best[p]))
+}
+
+/// The rank of each position, or that it is infinite; and each place of any finite list of edges is the one or the other.
+pub fn ranks<T: Edges>(table: &T) -> [Rank; POSITIONS]
+    ensures each { (p : ℕ) → p < 128 → Ranked (TableStep (T.edges table.now)) p (slice_index_or result p rank.Infinite) }
+    ensures laws { (edges : List Step) → Finite edges }
+{
+    ranks_of(&table.bytes())
 }

@@ -1,5 +1,5 @@
 -- The questions on a line in their order, and what its tables write.
-use Rattle.std.proofs.Common.{◌≡◌, ℕ, List, [], ◌∷◌, ◌++◌, map, length, Some, Ok, Err, Result, sym, ap, ◌∙◌, subst, inl, inr, arith, Bor, length-append}
+use Rattle.std.proofs.Common.{◌≡◌, ℕ, List, [], ◌∷◌, ◌++◌, map, length, Some, Ok, Err, Result, refl, sym, ap, ◌∙◌, subst, inl, inr, arith, Bor, length-append}
 use Rattle.std.proofs.lemmas.List.{length-map}
 use Rattle.questions.specs.declared.question.Refusal.{Refusal}
 use Rattle.tokens.specs.Tokens.{Token}
@@ -9,6 +9,7 @@ use Rattle.patterns.specs.Patterns.Line.{rule_line, fact_line}
 use Rattle.patterns.specs.declared.state.Form.TheVariants as forms
 use Rattle.patterns.specs.Asking.{Yes, Turned}
 use Rattle.patterns.specs.Asking.Asked.{line_length, bytes, word_length}
+use Rattle.bounded.specs.Bounded.{items}
 use Rattle.patterns.specs.declared.reader.Tables.{Tables}
 use Rattle.patterns.specs.declared.atom.Atom.{Atom}
 use Rattle.lists.specs.Places.{At}
@@ -47,4 +48,14 @@ only_atom (b ∷ before) d xs a e q = absurd (let n = ap length (sym (ap (map wr
 pub fact_written : (line : Bor (List ℕ)) (t : Tables) (d : Atom) → Last t.body (Some d) → Spells forms.Fact line t → AtomPartOf line d × Writes forms.Fact line.now (fact_line (written d))
 fact_written line t d last (rule_line a b h, (ts, _, f), k, _) = absurd f
 fact_written line t d (before, e) (fact_line a, w, k, _) =
-    (k.body_part (length before) d (subst (λ y. At y (length before) d) (sym e) (at_next before [] d)), subst (λ x. Writes forms.Fact line.now (fact_line x)) (sym (only_atom before d t.body.atoms.items a e k.first)) w)
+    (k.body_part (length before) d (subst (λ y. At y (length before) d) (sym e) (at_next before [] d)), subst (λ x. Writes forms.Fact line.now (fact_line x)) (sym (only_atom before d (items t.body.atoms) a e k.first)) w)
+
+only_one : (xs : List Atom) (a : Written) → map written xs ≡ a ∷ [] → (d : Atom) × (xs ≡ d ∷ [])
+only_one [] a q = absurd (let n = ap length q in omega arith)
+only_one (x ∷ []) a q = (x, refl)
+only_one (x ∷ y ∷ xs) a q = absurd (let n = ap length q in omega arith)
+
+-- a fact line has one atom
+pub fact_one : (line : Bor (List ℕ)) (t : Tables) → Spells forms.Fact line t → (d : Atom) × (items t.body.atoms ≡ d ∷ [])
+fact_one line t (rule_line a b h, (ts, _, f), k, _) = absurd f
+fact_one line t (fact_line a, w, k, _) = only_one (items t.body.atoms) a k.first

@@ -6,7 +6,8 @@ use Rattle.questions.specs.declared.question.Question.TheVariants.{Numbers}
 use Rattle.lists.specs.Places.{At, First, Pairwise}
 use Rattle.tokens.specs.Tokens.{Token}
 use Rattle.patterns.specs.Asking.{Number, GoodNumber}
-use Rattle.bounded.specs.Bounded.{Bounded}
+use Rattle.bounded.specs.Bounded.{items}
+use Rattle.bounded.specs.declared.Bounded.{Bounded}
 use Rattle.tokens.specs.declared.token.Word.{Word}
 use Rattle.patterns.specs.Tables.{word_of}
 use Rattle.lists.proofs.Mapped.{map_snoc, at_map_get, at_map_front, pairs_snoc, pairs_at}
@@ -41,12 +42,12 @@ front_more ws i d ns ms n l f h e = record {
 all_good : (ws : List Token) (ns : List ℕ) → Pairwise Means ws ns → (k : ℕ) (w : Token) → At ws k w → GoodNumber w.text
 all_good ws ns p k w h = pairs_at Means ws ns k w p h
 
-pub front_all : (f : FactLine) (ws : List Word) (i : ℕ) (v : Bounded ℕ) → ws ≡ f.atom.words.items → length ws ≤ i → Front ws i v.items → Valued f (Ok v) × Asks f (Ok v)
+pub front_all : (f : FactLine) (ws : List Word) (i : ℕ) (v : Bounded ℕ 4) → ws ≡ items f.atom.words → length ws ≤ i → Front ws i (items v) → Valued f (Ok v) × Asks f (Ok v)
 front_all f ws i v e l h =
-    let p : Valued f (Ok v) = subst (λ (x : List Word). Pairwise Means (map word_of x) v.items) (take_all i ws l ∙ e) h.pairs in
-    (p, λ line w. (_, w, all_good (words_of f) v.items p))
+    let p : Valued f (Ok v) = subst (λ (x : List Word). Pairwise Means (map word_of x) (items v)) (take_all i ws l ∙ e) h.pairs in
+    (p, λ line w. (_, w, all_good (words_of f) (items v) p))
 
-pub front_bad : (f : FactLine) (ws : List Word) (i : ℕ) (d : Word) (ns : List ℕ) (e : Refusal) → ws ≡ f.atom.words.items → i < length ws → Front ws i ns
+pub front_bad : (f : FactLine) (ws : List Word) (i : ℕ) (d : Word) (ns : List ℕ) (e : Refusal) → ws ≡ items f.atom.words → i < length ws → Front ws i ns
     → (GoodNumber (get_or ws i d).text.now → ⊥) → e.question ≡ Numbers → e.place ≡ (get_or ws i d).place → Valued f (Err e) × Asks f (Err e)
 front_bad f ws i d ns e q l h bad why at =
     let w = word_of (get_or ws i d) in

@@ -1,6 +1,7 @@
 -- The values of a fact line, and how they answer whether its words are numbers.
 use Rattle.std.specs.Prelude.{◌≡◌, ℕ, List, Ok, Err, Result}
-use Rattle.bounded.specs.Bounded.{Bounded}
+use Rattle.bounded.specs.Bounded.{items}
+use Rattle.bounded.specs.declared.Bounded.{Bounded}
 use Rattle.questions.specs.declared.question.Refusal.{Refusal}
 use Rattle.questions.specs.declared.question.Question.TheVariants.{Numbers}
 use Rattle.lists.specs.Places.{First, Pairwise}
@@ -18,11 +19,11 @@ abbrev pub words_of : FactLine → List Token
 words_of f = (written f.atom).words
 
 -- each word is a number and these are the values; or this is the first word that is none
-abbrev pub Valued : FactLine → Result (Bounded ℕ) Refusal → Type 0
-Valued f (Ok v) = Pairwise (λ w n. Number w.text n) (words_of f) v.items
+abbrev pub Valued : FactLine → Result (Bounded ℕ 4) Refusal → Type 0
+Valued f (Ok v) = Pairwise (λ w n. Number w.text n) (words_of f) (items v)
 Valued f (Err e) = (k : ℕ) × (w : Token) × First (λ x. GoodNumber x.text → ⊥) (words_of f) k w × (e.place ≡ w.place) × (e.question ≡ Numbers)
 
 -- of every line that writes the fact: the question on its numbers is answered so
-abbrev pub Asks : FactLine → Result (Bounded ℕ) Refusal → Type 0
+abbrev pub Asks : FactLine → Result (Bounded ℕ 4) Refusal → Type 0
 Asks f (Ok v) = (line : List ℕ) → Writes forms.Fact line (fact_of f) → Yes forms.Fact line numbers
 Asks f (Err e) = (line : List ℕ) → Writes forms.Fact line (fact_of f) → No forms.Fact line numbers e.place × (e.question ≡ Numbers)

@@ -23,7 +23,7 @@ fn read_pattern<'a>(line: &'a [u8], form: Form) -> Result<Tables<'a>, Refusal>
     while let Some(token) = lexer.next_token()? {
         reader.feed(token)?;
     }
-    reader.finish(line.len())
+    reader.finished(line.len())
 }
 
 // Each question is put to the whole line before the next one.
@@ -54,6 +54,6 @@ pub fn read_fact<'a>(line: &'a [u8]) -> Result<FactLine<'a>, Refusal>
 {
     let tables = read(line, Form::Fact)?;
     // The pattern has one atom.
-    let atom = tables.body.into_last().unwrap();
+    let atom = tables.body.atoms()[0];
     Ok(FactLine { atom })
 }

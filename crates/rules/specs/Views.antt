@@ -1,15 +1,16 @@
 -- The rules that stand in memory, as the definitions have them.
 use Rattle.std.specs.Prelude.{◌≡◌, ℕ, ◌<◌, ◌≤◌, List, map, length, Some, None, Option}
+use Rattle.bounded.specs.Bounded.{items}
 use Rattle.theory.specs.Rules as plain
 use Rattle.rules.specs.declared.rule.Atom.{Atom}
 use Rattle.rules.specs.declared.rule.Side.{Side}
 use Rattle.rules.specs.declared.rule.Rule.{Rule}
 
 abbrev pub variables : Atom → List ℕ
-variables a = a.columns.items
+variables a = items a.columns
 
 abbrev pub atoms_of : Side → List Atom
-atoms_of d = d.atoms.items
+atoms_of d = items d.atoms
 
 abbrev pub plain_atom : Atom → plain.Atom
 plain_atom a = record { predicate = a.predicate; columns = variables a }

@@ -1,5 +1,6 @@
 // A word of at most eight bytes, kept by value.
 ghost use Rattle.std.specs.Prelude.{◌≤◌, length};
+ghost use Rattle.bounded.specs.Bounded.{items};
 
 mod methods;
 
@@ -11,5 +12,5 @@ const MOST: usize = 8;
 #[derive(Clone, Copy)]
 pub struct Name {
     bytes: Bounded<u8, MOST>,
-    ghost few: { length bytes.items ≤ 8 },
+    ghost few: { length (items bytes) ≤ 8 },
 }

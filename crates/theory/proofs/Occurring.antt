@@ -1,6 +1,7 @@
 -- Occurrences by number, and where variables stand.
-use Rattle.std.proofs.Common.{◌≡◌, ℕ, ◌+◌, ◌*◌, ◌/◌, ◌%◌, ◌<◌, List, Some, None, Option, sym, refl, ap, ◌∙◌, subst, arith}
+use Rattle.std.proofs.Common.{◌≡◌, ℕ, ◌+◌, ◌*◌, ◌/◌, ◌%◌, ◌<◌, List, Some, None, Option, sym, refl, ap, ◌∙◌, subst, ⊎_elim, arith}
 use Rattle.std.specs.List.{slice_get}
+use Rattle.std.proofs.lemmas.Bool.{cases_eq}
 use Rattle.lists.specs.Places.{At}
 use Rattle.lists.proofs.Numbered.{at_below}
 use Rattle.lists.proofs.Elements.{at_nth, nth_at}
@@ -39,3 +40,18 @@ in_stands atoms v (k, c, (a, here, there)) = (position a c, (k, c, a, here, ther
 
 pub stands_in : (atoms : List Atom) (v p : ℕ) → Stands atoms v p → In atoms v
 stands_in atoms v p (k, c, a, here, there, _) = (k, c, (a, here, there))
+
+-- P holds of the first n occurrences, each a variable at a position
+abbrev pub EachBelow : (ℕ → ℕ → Type 0) → List Atom → ℕ → Type 0
+EachBelow P atoms n = (m v p : ℕ) → m < n → OccursAt atoms m v p → P v p
+
+pub each_next : (P : ℕ → ℕ → Type 0) (atoms : List Atom) (n : ℕ) (o : Option (ℕ × ℕ)) → o ≡ occurrence_of atoms n → ((v p : ℕ) → Is o v p → P v p) → EachBelow P atoms n → EachBelow P atoms (n + 1)
+each_next P atoms n o e here before m v p l t =
+    ⊎_elim
+    (λ same. here v p (subst (λ (x : Option (ℕ × ℕ)). Is x v p) (sym e) (subst (λ k. OccursAt atoms k v p) same t)))
+    (λ ne. before m v p (omega arith) t)
+    (cases_eq m n)
+
+-- so it holds wherever a variable stands
+pub each_stands : (P : ℕ → ℕ → Type 0) (atoms : List Atom) → SmallSide atoms → EachBelow P atoms 16 → (v p : ℕ) → Stands atoms v p → P v p
+each_stands P atoms small all v p s = let (n, l, t) = stands_number atoms v p small s in all n v p l t

@@ -1,12 +1,12 @@
 -- The positions of variables: they are below 128, and those of one variable as a list.
-use Rattle.std.proofs.Common.{◌≡◌, ℕ, zero, suc, ◌+◌, ◌<◌, Bool, true, false, cond, eqb, ◌⊎◌, List, [], ◌∷◌, ◌++◌, length, Some, None, Option, refl, ap, ◌∙◌, subst, inl, inr, arith}
+use Rattle.std.proofs.Common.{◌≡◌, ℕ, zero, suc, ◌+◌, ◌<◌, Bool, true, false, cond, eqb, ◌⊎◌, List, [], ◌∷◌, ◌++◌, length, get_or, Some, None, Option, refl, ap, ◌∙◌, subst, inl, inr, arith}
 use Rattle.std.proofs.lemmas.Bool.{false≢true, cases_eq, eqb-true, eq-eqb}
 use Rattle.lists.specs.Places.{At, Holds}
-use Rattle.lists.proofs.Numbered.{at_below, at_left}
+use Rattle.lists.proofs.Numbered.{at_below, get_at, at_left}
 use Rattle.lists.proofs.Elements.{at_right, at_either}
 use Rattle.theory.specs.Rules.{Atom, Stands, In, SmallSide}
 use Rattle.theory.specs.Occurrences.{occurrence_of, Is, OccursAt, position_if, positions_upto, positions_of}
-use Rattle.theory.proofs.Occurring.{stands_number, number_stands, in_stands}
+use Rattle.theory.proofs.Occurring.{stands_number, number_stands, in_stands, stands_in}
 
 -- there are 128 positions
 pub stands_small : (atoms : List Atom) (v p : ℕ) → SmallSide atoms → Stands atoms v p → p < 128
@@ -65,3 +65,12 @@ module _ (atoms : List Atom) (v : ℕ) where
 
   pub positions_some : SmallSide atoms → In atoms v → 0 < length (positions_of atoms v)
   positions_some small h = let (p, s) = in_stands atoms v h in let (k, t) = positions_has small p s in omega (arith, at_below (positions_of atoms v) k p t)
+
+  pub positions_none : (In atoms v → ⊥) → length (positions_of atoms v) ≡ 0
+  positions_none absent = by_case (cases_eq (length (positions_of atoms v)) 0)
+    where
+      by_case : (length (positions_of atoms v) ≡ 0) ⊎ (length (positions_of atoms v) ≡ 0 → ⊥) → length (positions_of atoms v) ≡ 0
+      by_case (inl e) = e
+      by_case (inr ne) =
+          let p = get_or (positions_of atoms v) 0 0 in
+          absurd (absent (stands_in atoms v p (positions_only 0 p (get_at (positions_of atoms v) 0 0 (omega arith)))))

@@ -1,4 +1,5 @@
 // Adding a rule line: its questions in their order, and what it would make of the book.
+ghost use Rattle.book.specs.Book.{Sound};
 ghost use Rattle.book.specs.Changing.{Added};
 ghost use Rattle.book.specs.Law.{Determined, Decided};
 ghost use Rattle.book.specs.Books.{LabelAsked, Prepared};
@@ -44,6 +45,7 @@ impl Book {
         ensures added { Added self.old line.now self.new result }
         ensures determined { Determined self.old }
         ensures decided { Decided self.old line.now }
+        ensures sound { ∥ Sound self.new ∥₁ }
     {
         let (rule, known) = self.prepare(line)?;
         self.known = known;

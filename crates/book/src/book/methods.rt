@@ -15,7 +15,8 @@ use std::alloc::{AllocError, Global};
 impl Book {
     // No rule stands and no predicate is known.
     pub fn new(heap: Global) -> Result<Book, AllocError>
-        ensures { IfOk result (λ b. b ≡ empty) }
+        ensures new { IfOk result (λ b. b ≡ empty) }
+        ensures sound { IfOk result (λ b. ∥ Sound b ∥₁) }
     {
         let rules = Vec::with_capacity(heap, RULES)?;
         Ok(Book {
@@ -34,21 +35,24 @@ impl Book {
 
     // How many predicates are known.
     pub fn predicates(&self) -> usize
-        ensures { result ≡ length self.now.known }
+        ensures known { result ≡ length self.now.known }
+        ensures sound { ∥ Sound self.now ∥₁ }
     {
         self.known.len()
     }
 
     // The known predicate of this number.
     pub fn predicate(&self, number: usize) -> Option<Predicate>
-        ensures { Gets self.now.known number result }
+        ensures gets { Gets self.now.known number result }
+        ensures sound { ∥ Sound self.now ∥₁ }
     {
         self.known.get(number)
     }
 
     // The number of the standing rule that carries the label.
     pub fn find(&self, label: &[u8]) -> Option<usize>
-        ensures { FindsLabel self.now label.now result }
+        ensures finds { FindsLabel self.now label.now result }
+        ensures sound { ∥ Sound self.now ∥₁ }
     {
         self.rules().iter().position(|rule| rule.label.is(label))
     }
@@ -57,6 +61,7 @@ impl Book {
     pub fn withdraw(&mut self, label: &[u8]) -> Result<(), Refusal>
         ensures withdrawn { Withdrawn self.old label.now self.new result }
         ensures determined { Determined self.old }
+        ensures sound { ∥ Sound self.new ∥₁ }
     {
         let number = self.find(label).ok_or(Question::LabelStands.at(0))?;
         self.rules.remove(number);

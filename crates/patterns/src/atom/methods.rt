@@ -1,5 +1,6 @@
 // Reading and filling atoms and sides.
 ghost use Rattle.std.specs.Prelude.{◌≡◌, ◌≤◌, [], length};
+ghost use Rattle.bounded.specs.Bounded.{items};
 ghost use Rattle.patterns.specs.Tables.{Last, Pushed, Begun, Added};
 
 use super::{Atom, Side};
@@ -9,7 +10,7 @@ use tokens::token::Word;
 impl<'a> Atom<'a> {
     fn new(predicate: Word<'a>) -> Atom<'a>
         ensures predicate { result.predicate ≡ predicate.entry }
-        ensures empty { result.words.items ≡ [] }
+        ensures empty { items result.words ≡ [] }
     {
         Atom {
             predicate,
@@ -25,7 +26,7 @@ impl<'a> Atom<'a> {
 
     // The words in its brackets.
     pub fn words(&self) -> &[Word<'a>]
-        ensures words { result.now ≡ self.now.words.items }
+        ensures words { result.now ≡ items self.now.words }
         ensures few { length result.now ≤ 4 }
     {
         self.words.as_slice()
@@ -42,7 +43,7 @@ impl<'a> Atom<'a> {
 impl<'a> Side<'a> {
     // No atom yet; the word only fills the unused places.
     pub fn new(filler: Word<'a>) -> Side<'a>
-        ensures { result.atoms.items ≡ [] }
+        ensures { items result.atoms ≡ [] }
     {
         Side {
             atoms: Bounded::new(Atom::new(filler)),
@@ -50,7 +51,7 @@ impl<'a> Side<'a> {
     }
 
     pub fn atoms(&self) -> &[Atom<'a>]
-        ensures atoms { result.now ≡ self.now.atoms.items }
+        ensures atoms { result.now ≡ items self.now.atoms }
         ensures few { length result.now ≤ 4 }
     {
         self.atoms.as_slice()

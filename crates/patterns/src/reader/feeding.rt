@@ -75,13 +75,15 @@ impl<'a> Reader<'a> {
     pub fn finish(self, len: usize) -> Result<Tables<'a>, Refusal>
         ensures { Finished self.entry len result }
     {
-        let Reader {
-            state,
-            tables,
-            extra,
-        } = self;
-        match (state, extra) {
-            (State::Done, None) => Ok(tables),
+        self.finished(len)
+    }
+
+    // The same of a reader that is lent: its tables are large, and are copied once less.
+    pub fn finished(&self, len: usize) -> Result<Tables<'a>, Refusal>
+        ensures { Finished self.now len result }
+    {
+        match (self.state, self.extra) {
+            (State::Done, None) => Ok(self.tables),
             (State::Done, Some(place)) => Err(Question::Counts.at(place)),
             _ => Err(Question::Pattern.at(len)),
         }

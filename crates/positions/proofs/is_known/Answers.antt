@@ -20,4 +20,4 @@ known_is b p (Some q) r Post post here m =
     )
 
 pub returns : goal.returns
-returns c = known_is c.args.book.now c.args.position c.predicate.result c.is_some_and.result _ (λ x k. search (rules, tests)) c.predicate.ensures c.is_some_and.ensures
+returns c = known_is c.args.book.now c.args.position c.predicate.result c.is_some_and.result _ (λ x k. search (rules, tests)) c.predicate.ensures.gets c.is_some_and.ensures

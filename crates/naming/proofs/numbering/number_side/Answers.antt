@@ -13,7 +13,7 @@ use Rattle.naming.specs.Meaning.{Predicate}
 use Rattle.naming.specs.Names.{names_of}
 use Rattle.naming.specs.Numbering.{AtomNumbered, SideNumbered}
 use Rattle.naming.proofs.Ends.{ok_after}
-use Rattle.naming.proofs.Sides.{Begun, begun_more, begun_long, begun_all}
+use Rattle.naming.proofs.Sides.{Begun, begun_more, begun_long, begun_stuck, begun_all}
 use Rattle.naming.proofs.numbering.number_side.Goals as goal
 
 module _ (known : List Predicate) (atoms : List source.Atom) (before mid : List (List ℕ)) (made : List Atom) (i : ℕ) (b : Begun known (map written (take i atoms)) before mid made) where
@@ -22,12 +22,9 @@ module _ (known : List Predicate) (atoms : List source.Atom) (before mid : List 
 
   -- an atom that cannot be numbered
   stuck : (after : List (List ℕ)) (a : source.Atom) → a ≡ get_or atoms i a → i < length atoms → length atoms ≤ 4 → AtomNumbered known (written a) mid after None → SideNumbered known (map written atoms) before after None
-  stuck after a is l few none = λ small all.
-      let w = written (get_or atoms i a) in
-      let long = begun_long known (map written (take i atoms)) before mid made b in
-      let most = subst (λ (k : source.Atom). AtomNumbered known (written k) mid after None) is none small (all.1 i w (at_map_get written atoms i a l)) in
-      let counted = count in
-      omega arith
+  stuck after a is l few none =
+      begun_stuck known (map written (take i atoms)) before mid made b after (map written atoms) i (written (get_or atoms i a)) count (omega (arith, length-map atoms written)) (at_map_get written atoms i a l)
+      (subst (λ (k : source.Atom). AtomNumbered known (written k) mid after None) is none)
 
   more : (after : List (List ℕ)) (a : source.Atom) (x : Atom) → a ≡ get_or atoms i a → i < length atoms → AtomNumbered known (written a) mid after (Some x) → Begun known (map written (take (i + 1) atoms)) before after (made ++ (x ∷ []))
   more after a x is l numbered =

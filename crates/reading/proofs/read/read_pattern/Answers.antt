@@ -32,4 +32,4 @@ pub returns : goal.returns
 returns c =
     let inv = c.loop-token.invariant in
     let form = c.args.form in
-    along_end form _ _ _ _ _ c.loop-token.reader _ _ (inv.0 ∙ c.new-lexer.ensures.line) c.in_default.not-Some refl (inv.1 form c.new-reader.ensures) c.in_ok-token.ensures.next c.finish.ensures
+    along_end form _ _ _ _ _ c.loop-token.reader _ _ (inv.0 ∙ c.new-lexer.ensures.line) c.in_default.not-Some refl (inv.1 form c.new-reader.ensures) c.in_ok-token.ensures.next c.finished.ensures

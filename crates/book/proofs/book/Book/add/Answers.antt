@@ -35,3 +35,6 @@ invariant_of-self c =
 
 pub returns-clause-determined : goal.returns-clause-determined
 returns-clause-determined c = determined c.args.self.now
+
+pub returns-clause-sound : goal.returns-clause-sound
+returns-clause-sound c = (invariant_of-self c).1

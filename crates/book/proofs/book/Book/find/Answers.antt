@@ -7,8 +7,8 @@ use Rattle.book.specs.Book as plain
 use Rattle.book.specs.Views.{plain_entry, FindsLabel}
 use Rattle.book.proofs.book.Book.find.Goals as goal
 
-pub returns : goal.returns
-returns c =
+pub returns-clause-finds : goal.returns-clause-finds
+returns-clause-finds c =
     let label = c.args.label.now in
     let standing = c.rules.result.now in
     let b = c.args.self.now in

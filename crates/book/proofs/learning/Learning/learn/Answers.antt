@@ -3,6 +3,7 @@ use Rattle.std.proofs.lemmas.Result.{err_from_is_err_and}
 use Rattle.std.proofs.lemmas.Iterator.{YieldsList-from_slice}
 use Rattle.std.proofs.lemmas.Iterator.Consumers.{YieldsList-from_chain, YieldsList-turn}
 use Rattle.std.proofs.lemmas.List.{length_push}
+use Rattle.bounded.specs.Bounded.{items}
 use Rattle.patterns.specs.Patterns.{Written}
 use Rattle.patterns.specs.Tables.{written}
 use Rattle.naming.specs.Names.{predicates_of}
@@ -12,16 +13,16 @@ use Rattle.book.proofs.learning.Learning.learn.Goals as goal
 
 pub learn_atom-requires-clause-short : goal.learn_atom-requires-clause-short
 learn_atom-requires-clause-short c =
-    let body = c.args.rule.now.body.atoms.items in
-    let head = c.args.rule.now.head.atoms.items in
+    let body = items c.args.rule.now.body.atoms in
+    let head = items c.args.rule.now.head.atoms in
     let t = YieldsList-turn (YieldsList-from_chain (YieldsList-from_slice body (cc)) (YieldsList-from_slice head (cc)) (cc) (cc)) c.loop-atom.yielded _ c.loop-atom.yielded_by _ _ c.in-Some.atom c.in-Some.is c.next.ensures.steps in
     short_at body head (length c.loop-atom.yielded) c.in-Some.atom.now t c.requires.short
 
 pub loop-atom-preserved : goal.loop-atom-preserved
 loop-atom-preserved c =
     let known = predicates_of c.args.known.now in
-    let body = c.args.rule.now.body.atoms.items in
-    let head = c.args.rule.now.head.atoms.items in
+    let body = items c.args.rule.now.body.atoms in
+    let head = items c.args.rule.now.head.atoms in
     let k = length c.loop-atom.yielded in
     let a = c.in-Some.atom.now in
     let long = length_push c.loop-atom.yielded c.in-Some.atom in
@@ -36,8 +37,8 @@ loop-atom-preserved c =
 
 pub returns-in_err-learn_atom : goal.returns-in_err-learn_atom
 returns-in_err-learn_atom c =
-    let body = c.args.rule.now.body.atoms.items in
-    let head = c.args.rule.now.head.atoms.items in
+    let body = items c.args.rule.now.body.atoms in
+    let head = items c.args.rule.now.head.atoms in
     let t = YieldsList-turn (YieldsList-from_chain (YieldsList-from_slice body (cc)) (YieldsList-from_slice head (cc)) (cc) (cc)) c.loop-atom.yielded _ c.loop-atom.yielded_by _ _ c.in-Some.atom c.in-Some.is c.next.ensures.steps in
     let p = err_from_is_err_and c.from_residual.result c.from_residual.ensures.1 in
     rw (p.1, p.2)

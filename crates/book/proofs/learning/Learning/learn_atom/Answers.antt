@@ -1,6 +1,7 @@
 use Rattle.std.proofs.Common.{ℕ, ◌≡◌, ◌≤◌, List, length, take, sym, ap, ◌∙◌, subst}
 use Rattle.std.proofs.Math.ListN.{length-map}
 use Rattle.std.proofs.lemmas.List.{take_all}
+use Rattle.bounded.specs.Bounded.{items}
 use Rattle.tokens.specs.declared.token.Word.{Word}
 use Rattle.patterns.specs.Tables.{written, word_of}
 use Rattle.patterns.specs.declared.atom.Atom.{Atom}
@@ -10,8 +11,8 @@ use Rattle.book.specs.declared.learning.Learning.{Learning}
 use Rattle.book.proofs.Atomwise.{learnt_same, learnt_new, named_there}
 use Rattle.book.proofs.learning.Learning.learn_atom.Goals as goal
 
-many : (a : Atom) (ws : List Word) → ws ≡ a.words.items → length ws ≡ length (written a).words
-many a ws e = ap (λ (k : List Word). length k) e ∙ sym (length-map a.words.items word_of)
+many : (a : Atom) (ws : List Word) → ws ≡ items a.words → length ws ≡ length (written a).words
+many a ws e = ap (λ (k : List Word). length k) e ∙ sym (length-map (items a.words) word_of)
 
 new_learned : (a : Atom) (word : Word) (n : ℕ) (l m : Learning) → word ≡ a.predicate → n ≡ length (written a).words → length a.predicate.text.now ≤ 8 → NewLearned (take 8 word.text.now) n word.place l m → NewLearned a.predicate.text.now (length (written a).words) a.predicate.place l m
 new_learned a word n l m e f short new =

@@ -1,5 +1,6 @@
 use Rattle.std.proofs.Common.{◌≡◌, ◌∷◌, [], ◌++◌, rules, ap, ◌∙◌}
 use Rattle.std.proofs.lemmas.Result.{err_from_is_err_and}
+use Rattle.bounded.specs.Bounded.{items}
 use Rattle.reading.proofs.Valuing.{told_number, told_none, front_more, front_all, front_bad}
 use Rattle.reading.proofs.line.FactLine.values.Goals as goal
 
@@ -14,7 +15,7 @@ returns-in_err-number c =
 pub loop-word-preserved : goal.loop-word-preserved
 loop-word-preserved c =
     let good = told_number _ _ _ c.in_ok-number.ensures.ok_part c.decimal.ensures in
-    let more : c.push.new.self.items ≡ c.loop-word.values.items ++ (c.in_ok-number.number ∷ []) = search rules in
+    let more : items c.push.new.self ≡ items c.loop-word.values ++ (c.in_ok-number.number ∷ []) = search rules in
     front_more _ _ _ _ _ _ c.loop-word-test.true c.loop-word.invariant good more
 
 pub returns : goal.returns

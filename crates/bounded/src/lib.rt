@@ -1,7 +1,7 @@
 // Lists of at most N elements that lie in the value itself: they take no memory, and are copied like numbers.
 #![tactic(auto, unfolding(crate::specs::Bounded::items))]
 
-ghost use Rattle.std.specs.Prelude.{◌≡◌, ◌<◌, ◌≤◌, ◌↔◌, [], ◌∷◌, ◌++◌, length, IsOk, IsSome, IfOk, IfNone, OnOk, OnErr, OnSome, ⊤};
+ghost use Rattle.std.specs.Prelude.{◌≡◌, ◌<◌, ◌≤◌, ◌↔◌, [], ◌∷◌, ◌++◌, length, set, IsOk, IsSome, IfOk, IfNone, OnOk, OnErr, OnSome, ⊤};
 ghost use Rattle.std.specs.Option.{option_to_list};
 
 use std::alloc::AllocError;
@@ -88,6 +88,16 @@ impl<T: Copy, const N: usize> Bounded<T, N> {
         self.places[self.len] = element;
         self.len += 1;
         Ok(())
+    }
+
+    /// This element in the place of the one at that number, if there is one.
+    pub fn set(&mut self, at: usize, element: T)
+        ensures items { items self.new ≡ set (items self.old) at element }
+        ensures beyond { length (items self.old) ≤ at → self.new ≡ self.old }
+    {
+        if at < self.len {
+            self.places[at] = element;
+        }
     }
 
     /// The last element, which is taken away, if there is one.

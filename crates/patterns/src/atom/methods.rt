@@ -76,12 +76,15 @@ impl<'a> Side<'a> {
     pub fn add(&mut self, word: Word<'a>) -> Result<(), Full>
         ensures { Added self.old word.entry self.new result }
     {
-        let Some(mut last) = self.atoms.pop() else {
+        let n = self.atoms.len();
+        if n == 0 {
             return Ok(());
-        };
-        let added = last.push(word);
-        // It goes back to where it was; a loan of the last one would need a proof by hand.
-        self.atoms.push(last)?;
+        }
+        // Copied and put back: a loan of the atom would need a proof by hand.
+        let last = n - 1;
+        let mut atom = self.atoms()[last];
+        let added = atom.push(word);
+        self.atoms.set(last, atom);
         added
     }
 }

@@ -93,7 +93,7 @@ impl<T: Copy, const N: usize> Bounded<T, N> {
     /// This element in the place of the one at that number, if there is one.
     pub fn set(&mut self, at: usize, element: T)
         ensures items { items self.new ≡ set (items self.old) at element }
-        ensures beyond { length (items self.old) ≤ at → self.new ≡ self.old }
+        ensures unchanged { length (items self.old) ≤ at → self.new ≡ self.old }
     {
         if at < self.len {
             self.places[at] = element;

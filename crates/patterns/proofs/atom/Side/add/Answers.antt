@@ -1,4 +1,4 @@
-use Rattle.std.proofs.Common.{◌≡◌, ◌<◌, ◌-◌, ℕ, List, length, take, set, get_or, Result, inr, rules, arith}
+use Rattle.std.proofs.Common.{◌≡◌, ◌+◌, ℕ, List, length, take, set, get_or, Result, inr, rules, arith}
 use Rattle.std.proofs.Math.Seq.{take-suc, take-suc-set}
 use Rattle.std.proofs.lemmas.List.{take_all, length-set}
 use Rattle.bounded.specs.Bounded.{items}
@@ -10,17 +10,17 @@ use Rattle.patterns.specs.Tables.{Pushed, Added}
 use Rattle.patterns.proofs.atom.Side.add.Goals as goal
 
 -- the last of n atoms has another put in its place
-added : (d e : Side) (n : ℕ) (atoms : List Atom) (a b : Atom) (w : Word) (r : Result (Unit {0}) Full) → atoms ≡ items d.atoms → n ≡ length (items d.atoms) → 0 < n → a ≡ get_or atoms (n - 1) a → items e.atoms ≡ set (items d.atoms) (n - 1) b → Pushed a w b r → Added d w e r
-added d e n atoms a b w r same count some was is pushed =
+added : (d e : Side) (n k : ℕ) (atoms : List Atom) (a b : Atom) (w : Word) (r : Result (Unit {0}) Full) → items e.atoms ≡ set (items d.atoms) k b → a ≡ get_or atoms k a → atoms ≡ items d.atoms → n ≡ length (items d.atoms) → k + 1 ≡ n → Pushed a w b r → Added d w e r
+added d e n k atoms a b w r is some same count at pushed =
     let xs = items d.atoms in
     inr (record {
-      before = take (n - 1) xs;
+      before = take k xs;
       old = a;
       new = b;
-      was = grind (arith, take-suc xs (n - 1) a, take_all);
-      is = grind (arith, take-suc-set xs (n - 1) b, length-set, take_all);
+      was = grind (arith, take-suc xs k a, take_all);
+      is = grind (arith, take-suc-set xs k b, length-set, take_all);
       pushed = pushed;
     })
 
 pub returns : goal.returns
-returns c = search (rules, added)
+returns c = search (rules, arith, added)

@@ -82,10 +82,12 @@ impl<'a> Reader<'a> {
     pub fn finished(&self, len: usize) -> Result<Tables<'a>, Refusal>
         ensures { Finished self.now len result }
     {
-        match (self.state, self.extra) {
-            (State::Done, None) => Ok(self.tables),
-            (State::Done, Some(place)) => Err(Question::Counts.at(place)),
-            _ => Err(Question::Pattern.at(len)),
+        if self.state != State::Done {
+            return Err(Question::Pattern.at(len));
         }
+        if let Some(place) = self.extra {
+            return Err(Question::Counts.at(place));
+        }
+        Ok(self.tables)
     }
 }

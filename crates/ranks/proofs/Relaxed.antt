@@ -8,7 +8,7 @@ use Rattle.graphs.specs.Walks.{counts}
 use Rattle.ranks.specs.declared.edge.Edge.{Edge}
 use Rattle.ranks.specs.Edges.{adds}
 use Rattle.ranks.specs.Tables.{entry, TableStep}
-use Rattle.ranks.specs.Relaxing.{number, offered, relaxed, Gives, Relaxes, Round, Tense}
+use Rattle.ranks.specs.Relaxing.{number, offered_or_zero, relaxed, Gives, Relaxes, Round, Tense}
 use Rattle.ranks.proofs.Edges.{step_entry, entry_step}
 
 -- r is the greatest of m and of what h gives of the n numbers from a on
@@ -34,20 +34,20 @@ reduced [] = refl
 reduced (x ∷ xs) = ap (λ m. fold max m xs) (omega arith)
 
 module _ (table : List (Option Edge)) (best : List ℕ) (to n : ℕ) (inside : n ≤ 128) (l : to < 128) where
-  pub relaxes_greatest : Relaxes table best n to (unwrap_or (reduce max (map (offered table best to) (range_with_len 0 n))) 0)
-  relaxes_greatest = subst (λ k. Relaxes table best n to k) (sym (reduced (map (offered table best to) (range_with_len 0 n)))) (record { lifts = lifts; some = ⊎_elim inl (λ s. gives s.0 (omega (arith, s.1)) (entry table s.0 to) refl s.2) greatest.some })
+  pub relaxes_greatest : Relaxes table best n to (unwrap_or (reduce max (map (offered_or_zero table best to) (range_with_len 0 n))) 0)
+  relaxes_greatest = subst (λ k. Relaxes table best n to k) (sym (reduced (map (offered_or_zero table best to) (range_with_len 0 n)))) (record { lifts = lifts; some = ⊎_elim inl (λ s. gives s.0 (omega (arith, s.1)) (entry table s.0 to) refl s.2) greatest.some })
     where
       most : ℕ
-      most = fold max 0 (map (offered table best to) (range_with_len 0 n))
+      most = fold max 0 (map (offered_or_zero table best to) (range_with_len 0 n))
 
-      greatest : Greatest (offered table best to) 0 n 0 most
-      greatest = greatest_of (offered table best to) 0 n 0
+      greatest : Greatest (offered_or_zero table best to) 0 n 0 most
+      greatest = greatest_of (offered_or_zero table best to) 0 n 0
 
       lifts : (s : Step) → TableStep table s → s.to ≡ to → s.from < n → number best s.from + counts s ≤ most
       lifts s step e b =
           let (edge, is, given) = step_entry table s step in
           let there : entry table s.from to ≡ Some edge = subst (λ q. entry table s.from q ≡ Some edge) e is in
-          let one : offered table best to s.from ≡ number best s.from + adds edge = ap (λ o. unwrap_or (option_map (λ x. number best s.from + adds x) o) 0) there in
+          let one : offered_or_zero table best to s.from ≡ number best s.from + adds edge = ap (λ o. unwrap_or (option_map (λ x. number best s.from + adds x) o) 0) there in
           omega (arith, greatest.each s.from (omega arith) (omega arith), one)
 
       gives : (k : ℕ) → k < n → (o : Option Edge) → entry table k to ≡ o → unwrap_or (option_map (λ x. number best k + adds x) o) 0 ≡ most → (most ≡ 0) ⊎ Gives table best to most

@@ -29,10 +29,14 @@ pub record Round (table : List (Option Edge)) (old new : List ℕ) : Type 0 wher
 abbrev pub Tense : List (Option Edge) → List ℕ → ℕ → Type 0
 Tense table best to = (s : Step) × TableStep table s × (s.to ≡ to) × (number best to < number best s.from + counts s)
 
--- the number that the edge from the position `from` gives the position; 0 if there is no edge
-abbrev pub offered : List (Option Edge) → List ℕ → ℕ → ℕ → ℕ
-offered table best to from = unwrap_or (option_map (λ edge. number best from + adds edge) (entry table from to)) 0
+-- the number that the edge from the position `from` gives the position, if there is an edge
+abbrev pub offered : List (Option Edge) → List ℕ → ℕ → ℕ → Option ℕ
+offered table best to from = option_map (λ edge. number best from + adds edge) (entry table from to)
+
+-- that number; 0 if there is no edge
+abbrev pub offered_or_zero : List (Option Edge) → List ℕ → ℕ → ℕ → ℕ
+offered_or_zero table best to from = unwrap_or (offered table best to from) 0
 
 -- the greatest of the numbers that positions give the position
 unfoldable pub relaxed : List (Option Edge) → List ℕ → ℕ → ℕ
-relaxed table best to = unwrap_or (reduce max (map (offered table best to) (range_with_len 0 128))) 0
+relaxed table best to = unwrap_or (reduce max (map (offered_or_zero table best to) (range_with_len 0 128))) 0

@@ -3,7 +3,7 @@ ghost use Rattle.std.specs.Prelude.{◌≡◌, ℕ, ◌<◌};
 ghost use Rattle.graphs.specs.Potentials.{Attained, Covers};
 ghost use Rattle.ranks.specs.Edges.{edges_of};
 ghost use Rattle.ranks.specs.Tables.{TableStep};
-ghost use Rattle.ranks.specs.Relaxing.{Relaxes, Round, number, offered};
+ghost use Rattle.ranks.specs.Relaxing.{Relaxes, Round, number, offered_or_zero};
 
 use crate::table::{Bytes, POSITIONS, edge_of};
 use std::array;
@@ -18,7 +18,7 @@ pub(crate) type Numbers = [u16; POSITIONS];
 fn offer(table: &Bytes, best: &Numbers, from: usize, to: usize) -> u32
     requires from { from < 128 }
     requires to { to < 128 }
-    ensures { result ≡ offered (edges_of table.now) best.now to from }
+    ensures { result ≡ offered_or_zero (edges_of table.now) best.now to from }
 {
     let number = u32::from(best[from]);
     edge_of(table[POSITIONS * from + to]).map_or(0, |edge| number + edge.adds())

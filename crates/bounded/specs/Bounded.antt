@@ -2,6 +2,10 @@
 use Rattle.std.specs.Prelude.{List, ℕ, take}
 use Rattle.bounded.specs.declared.Bounded.{Bounded}
 
--- the elements, in their order; of the unused places no clause says anything
+-- the elements, in their order
 unfoldable pub items : {T : Type 0} {N : ℕ} → Bounded T N → List T
 items b = take b.len b.places
+
+-- the elements, and behind them what lies in the unused places: only a clause on clones, which may fail at these too, speaks of it
+unfoldable pub places : {T : Type 0} {N : ℕ} → Bounded T N → List T
+places b = b.places

@@ -1,5 +1,5 @@
 // Lists of at most N elements that lie in the value itself: they take no memory, and are copied like numbers.
-#![tactic(auto, unfolding(crate::specs::Bounded::items))]
+#![tactic(auto, unfolding(crate::specs::Bounded::items, crate::specs::Bounded::places))]
 
 ghost use Rattle.std.specs.Prelude.{◌≡◌, ◌<◌, ◌≤◌, ◌↔◌, [], ◌∷◌, ◌++◌, length, set, slice_index_or, ℕ, IsOk, IsSome, IfOk, IfNone, OnOk, OnErr, OnSome, ⊤};
 ghost use Rattle.std.specs.Option.{option_to_list};
@@ -40,15 +40,15 @@ impl<T: Copy, const N: usize> Clone for Bounded<T, N> {
 impl<T: Copy, const N: usize> Copy for Bounded<T, N> {}
 
 impl<T: Clone, const N: usize> Bounded<T, N> {
-    ghost use Rattle.bounded.specs.Bounded.{items};
+    ghost use Rattle.bounded.specs.Bounded.{items, places};
 
     /// A list of clones. It fails only where the clone of an element does, or of what lies in an unused place.
     // Not `clone`, which says of elements that are `Copy` that it gives the same list and never fails.
     pub fn clones(&self) -> Result<Bounded<T, N>, AllocError>
         ensures length { IfOk result (λ b. length (items b) ≡ length (items self.now)) }
         ensures items { IfOk result (λ b. AllZip T.is_clone (items self.now) (items b)) }
-        ensures places { IfOk result (λ b. AllZipBelow T.is_clone self.now.places b.places N) }
-        ensures succeeds { IntoIterFitsInMemory T.row N.row → ((i : ℕ) (d : T) → i < N → T.is_infallible (slice_index_or self.now.places i d)) → IsOk result }
+        ensures places { IfOk result (λ b. AllZipBelow T.is_clone (places self.now) (places b) N) }
+        ensures succeeds { IntoIterFitsInMemory T.row N.row → ((i : ℕ) (d : T) → i < N → T.is_infallible (slice_index_or (places self.now) i d)) → IsOk result }
     {
         Ok(Bounded {
             places: self.places.clone()?,

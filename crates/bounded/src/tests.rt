@@ -1,4 +1,4 @@
-// What no clause can say: that there is memory for clones.
+// The call that may run out of memory succeeds on a short list.
 use super::*;
 use std::test::Fail;
 

@@ -42,13 +42,13 @@ front_more ws i d ns ms n l f h e = record {
 all_good : (ws : List Token) (ns : List ℕ) → Pairwise Means ws ns → (k : ℕ) (w : Token) → At ws k w → GoodNumber w.text
 all_good ws ns p k w h = pairs_at Means ws ns k w p h
 
-pub front_all : (f : FactLine) (ws : List Word) (i : ℕ) (v : Bounded ℕ 4) → ws ≡ items f.atom.words → length ws ≤ i → Front ws i (items v) → Valued f (Ok v) × Asks f (Ok v)
+pub front_all : {N : ℕ} (f : FactLine) (ws : List Word) (i : ℕ) (v : Bounded ℕ N) → ws ≡ items f.atom.words → length ws ≤ i → Front ws i (items v) → Valued f (Ok v) × Asks f (Ok v)
 front_all f ws i v e l h =
     let p : Valued f (Ok v) = subst (λ (x : List Word). Pairwise Means (map word_of x) (items v)) (take_all i ws l ∙ e) h.pairs in
     (p, λ line w. (_, w, all_good (words_of f) (items v) p))
 
 pub front_bad : (f : FactLine) (ws : List Word) (i : ℕ) (d : Word) (ns : List ℕ) (e : Refusal) → ws ≡ items f.atom.words → i < length ws → Front ws i ns
-    → (GoodNumber (get_or ws i d).text.now → ⊥) → e.question ≡ Numbers → e.place ≡ (get_or ws i d).place → Valued f (Err e) × Asks f (Err e)
+    → (GoodNumber (get_or ws i d).text.now → ⊥) → e.question ≡ Numbers → e.place ≡ (get_or ws i d).place → Valued {N = 4} f (Err e) × Asks {N = 4} f (Err e)
 front_bad f ws i d ns e q l h bad why at =
     let w = word_of (get_or ws i d) in
     let first : First (λ x. GoodNumber x.text → ⊥) (words_of f) i w = subst (λ (x : List Word). First (λ y. GoodNumber y.text → ⊥) (map word_of x) i w) q (record {

@@ -19,11 +19,11 @@ abbrev pub words_of : FactLine → List Token
 words_of f = (written f.atom).words
 
 -- each word is a number and these are the values; or this is the first word that is none
-abbrev pub Valued : FactLine → Result (Bounded ℕ 4) Refusal → Type 0
+abbrev pub Valued : {N : ℕ} → FactLine → Result (Bounded ℕ N) Refusal → Type 0
 Valued f (Ok v) = Pairwise (λ w n. Number w.text n) (words_of f) (items v)
 Valued f (Err e) = (k : ℕ) × (w : Token) × First (λ x. GoodNumber x.text → ⊥) (words_of f) k w × (e.place ≡ w.place) × (e.question ≡ Numbers)
 
 -- of every line that writes the fact: the question on its numbers is answered so
-abbrev pub Asks : FactLine → Result (Bounded ℕ 4) Refusal → Type 0
+abbrev pub Asks : {N : ℕ} → FactLine → Result (Bounded ℕ N) Refusal → Type 0
 Asks f (Ok v) = (line : List ℕ) → Writes forms.Fact line (fact_of f) → Yes forms.Fact line numbers
 Asks f (Err e) = (line : List ℕ) → Writes forms.Fact line (fact_of f) → No forms.Fact line numbers e.place × (e.question ≡ Numbers)

@@ -1,4 +1,4 @@
-// Lists of at most N elements that lie in the value itself: they take no memory, and are copied like numbers.
+// Lists of at most N elements that lie in the value itself: they take no memory of their own, and are copied like numbers where their elements are.
 #![tactic(auto, unfolding(crate::specs::Bounded::items, crate::specs::Bounded::places))]
 
 ghost use Rattle.std.specs.Prelude.{◌≡◌, ◌<◌, ◌≤◌, ◌↔◌, [], ◌∷◌, ◌++◌, length, set, slice_index_or, ℕ, IsOk, IsSome, IfOk, IfNone, OnOk, OnErr, OnSome, ⊤};
@@ -42,7 +42,7 @@ impl<T: Copy, const N: usize> Copy for Bounded<T, N> {}
 impl<T: Clone, const N: usize> Bounded<T, N> {
     ghost use Rattle.bounded.specs.Bounded.{items, places};
 
-    /// A list of clones. It fails only where the clone of an element does, or of what lies in an unused place.
+    /// A list of clones. It doesn't fail if no clone of what lies in its places can, unused ones too, and such an array fits in memory.
     // Not `clone`, which says of elements that are `Copy` that it gives the same list and never fails.
     pub fn clones(&self) -> Result<Bounded<T, N>, AllocError>
         ensures length { IfOk result (λ b. length (items b) ≡ length (items self.now)) }

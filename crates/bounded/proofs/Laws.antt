@@ -1,7 +1,8 @@
 -- What holds of every bounded list: laws for the proofs of other crates.
-use Rattle.std.proofs.Common.{◌≡◌, ℕ, ◌≤◌, List, ◌++◌, length, drop, sym, ap, ◌∙◌, subst, arith, take-append-drop, length-take-le}
+use Rattle.std.proofs.Common.{◌≡◌, ℕ, ◌+◌, ◌≤◌, List, ◌++◌, length, drop, refl, sym, ap, ◌∙◌, subst, arith, take-append-drop, length-append, length-take-le}
 use Rattle.std.proofs.Math.Bridge.{le_prop}
 use Rattle.std.proofs.Math.Nat.{ℕ_set}
+use Rattle.std.proofs.Math.Seq.{take-append_seam}
 use Rattle.bounded.specs.Bounded.{items, places}
 use Rattle.bounded.specs.declared.Bounded.{Bounded}
 
@@ -41,3 +42,8 @@ module _ {T : Type 0} {N : ℕ} where
       let len : a.len ≡ b.len = sym (long a) ∙ ap length i ∙ long b in
       let all : a.places ≡ b.places = sym (items_first a) ∙ ap (λ xs. xs ++ drop (length (items a)) (places a)) i ∙ ap (λ ys. items b ++ ys) d ∙ items_first b in
       fields a.places b.places a.len b.len all len a.few b.few a.wide b.wide
+
+  -- any elements and any rest, N together, make a list
+  pub made : (xs ys : List T) → length xs + length ys ≡ N → (b : Bounded T N) × (items b ≡ xs) × (places b ≡ xs ++ ys)
+  unfolding items places list
+  made xs ys e = (list (xs ++ ys) (length xs) (omega (arith, e)) (length-append xs ys ∙ e), take-append_seam xs ys, refl)

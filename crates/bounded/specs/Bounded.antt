@@ -6,6 +6,6 @@ use Rattle.bounded.specs.declared.Bounded.{Bounded}
 unfoldable pub items : {T : Type 0} {N : ℕ} → Bounded T N → List T
 items b = take b.len b.places
 
--- the elements, and behind them what lies in the unused places: only a clause on clones, which may fail at these too, speaks of it
+-- the elements, and behind them what lies in the unused places: only clauses on clones, which may fail at these too, and laws speak of it
 unfoldable pub places : {T : Type 0} {N : ℕ} → Bounded T N → List T
 places b = b.places

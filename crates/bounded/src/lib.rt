@@ -42,7 +42,7 @@ impl<T: Copy, const N: usize> Copy for Bounded<T, N> {}
 impl<T: Clone, const N: usize> Bounded<T, N> {
     ghost use Rattle.bounded.specs.Bounded.{items, places};
 
-    /// A list of clones. It doesn't fail if no clone of what lies in its places can, unused ones too, and such an array fits in memory.
+    /// A list of clones. It doesn't fail if no clone of what lies in its places can, unused ones too, and an `IntoIter<T, N>` fits in memory.
     // Not `clone`, which says of elements that are `Copy` that it gives the same list and never fails.
     pub fn clones(&self) -> Result<Bounded<T, N>, AllocError>
         ensures length { IfOk result (λ b. length (items b) ≡ length (items self.now)) }

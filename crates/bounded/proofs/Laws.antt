@@ -14,9 +14,11 @@ module _ {T : Type 0} {N : ℕ} where
   proofs : (ps : List T) (n : ℕ) (f g : n ≤ N) (w v : length ps ≡ N) → list ps n f w ≡ list ps n g v
   proofs ps n f g w v = ap (λ h. list ps n h w) (le_prop f g) ∙ ap (list ps n g) (ℕ_set _ _ w v)
 
+  -- so lists with equal fields are equal
   fields : (ps qs : List T) (n m : ℕ) → ps ≡ qs → n ≡ m → (f : n ≤ N) (g : m ≤ N) (w : length ps ≡ N) (v : length qs ≡ N) → list ps n f w ≡ list qs m g v
   fields ps qs n m p e = subst (λ rs. (f : n ≤ N) (g : m ≤ N) (w : length ps ≡ N) (v : length rs ≡ N) → list ps n f w ≡ list rs m g v) p (λ f g w v. subst (λ k. (h : k ≤ N) → list ps n f w ≡ list ps k h v) e (λ h. proofs ps n f h w v) g)
 
+  -- the count is the number of elements
   long : (b : Bounded T N) → length (items b) ≡ b.len
   unfolding items
   long b = length-take-le b.len b.places (omega (arith, b.few, b.wide))

@@ -1,4 +1,4 @@
--- What a bounded list is to a reader of contracts: its elements.
+-- What a bounded list is to a reader of contracts: its elements, and what lies in its places.
 use Rattle.std.specs.Prelude.{List, ℕ, take}
 use Rattle.bounded.specs.declared.Bounded.{Bounded}
 

@@ -47,6 +47,7 @@ front_all f ws i v e l h =
     let p : Valued f (Ok v) = subst (λ (x : List Word). Pairwise Means (map word_of x) (items v)) (take_all i ws l ∙ e) h.pairs in
     (p, λ line w. (_, w, all_good (words_of f) (items v) p))
 
+-- of a refusal the type is the same for every N; the checker wants one named
 pub front_bad : (f : FactLine) (ws : List Word) (i : ℕ) (d : Word) (ns : List ℕ) (e : Refusal) → ws ≡ items f.atom.words → i < length ws → Front ws i ns
     → (GoodNumber (get_or ws i d).text.now → ⊥) → e.question ≡ Numbers → e.place ≡ (get_or ws i d).place → Valued {N = 4} f (Err e) × Asks {N = 4} f (Err e)
 front_bad f ws i d ns e q l h bad why at =
